@@ -1,0 +1,4 @@
+pub mod Products
+pub mod Hashes
+pub mod Actions
+pub mod ActionReadBack

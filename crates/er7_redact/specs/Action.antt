@@ -1,0 +1,182 @@
+-- action.rs: the eight actions, reading, printing and applying them. Assumes nothing: these are definitions.
+use mathlib.Core.Path.{_≡_}
+use mathlib.Core.Bool.{cond}
+use mathlib.Core.List.{[], _∷_, _++_}
+use mathlib.Core.Option.{Option, none, some, Option·map}
+use Prim.Native.Nat.{ℕ, _+_, _-_, _≤_}
+use lib.Dec.{eqb}
+use lib.ListN.{length, take, drop, replicate}
+use Rattle.text.specs.Text.{Text, bytes, isBlank, notBlank, isWord, run, rest, part, put}
+use Rattle.text.specs.Number.{decimal, Taken, taken, refused, takeNumber}
+use Rattle.er7_redact.specs.Pseudonym as P
+use Rattle.er7_redact.specs.declared.action.Verb.{Verb}
+use Rattle.er7_redact.specs.declared.action.Verb.the-variants as Verbs
+use Rattle.er7_redact.specs.declared.action.Action.{Action as HeldAction}
+use Rattle.er7_redact.specs.declared.action.Action.the-variants as Held
+use Rattle.er7_redact.specs.declared.action.ParsedAction.{ParsedAction}
+use Rattle.er7_redact.specs.declared.action.ParsedAction.the-variants.{Parsed, BadAction}
+use Rattle.er7_redact.specs.declared.action.Applied.{Applied}
+use Rattle.er7_redact.specs.declared.action.Applied.the-variants.{Written, Nothing}
+
+-- "one of eight actions: keep, clear, null, replace, mask, first, last, pseudonym"
+pub data Action : Type 0 where
+  keep clear null pseudonym : Action
+  replace : Text → Action
+  mask first last : ℕ → Action
+
+-- ---- reading
+
+-- the name is the first word, and the argument what stands behind the blanks that follow it
+unfoldable pub name : Text → Text
+name s = run notBlank s
+
+unfoldable pub argument : Text → Text
+argument s = rest isBlank (rest notBlank s)
+
+-- "Names ignore case": those with an argument, and all
+unfoldable pub verbWithArgument : Text → Verb
+verbWithArgument w =
+    cond (isWord w (bytes "replace")) Verbs.Replace
+    (cond (isWord w (bytes "mask")) Verbs.Mask
+    (cond (isWord w (bytes "first")) Verbs.First
+    (cond (isWord w (bytes "last")) Verbs.Last Verbs.Unknown)))
+
+unfoldable pub verb : Text → Verb
+verb w =
+    cond (isWord w (bytes "keep")) Verbs.Keep
+    (cond (isWord w (bytes "clear")) Verbs.Clear
+    (cond (isWord w (bytes "null")) Verbs.Null
+    (cond (isWord w (bytes "pseudonym")) Verbs.Pseudonym (verbWithArgument w))))
+
+unfoldable pub bare : Action → Text → Option Action
+bare a [] = some a
+bare a (x ∷ s) = none
+
+-- "Bare `replace` writes REDACTED"
+unfoldable pub readReplace : Text → Option Action
+readReplace [] = some (replace (bytes "REDACTED"))
+readReplace (x ∷ s) = some (replace (x ∷ s))
+
+-- "bare `mask` uses `*`"
+unfoldable pub readMask : Text → Option Action
+readMask [] = some (mask 0x2a)
+readMask (x ∷ []) = some (mask x)
+readMask (x ∷ y ∷ s) = none
+
+-- "`first` and `last` need a count, a leading `+` allowed"
+unfoldable pub withoutPlus : Text → Text
+withoutPlus [] = []
+withoutPlus (x ∷ s) = cond (eqb x 0x2b) s (x ∷ s)
+
+unfoldable pub whole : Taken → Option ℕ
+whole (taken n []) = some n
+whole (taken n (x ∷ s)) = none
+whole refused = none
+
+unfoldable pub readCount : Text → Option ℕ
+readCount s = whole (takeNumber (withoutPlus s))
+
+unfoldable pub readArgument : Verb → Text → Option Action
+readArgument Verbs.Keep s = bare keep s
+readArgument Verbs.Clear s = bare clear s
+readArgument Verbs.Null s = bare null s
+readArgument Verbs.Pseudonym s = bare pseudonym s
+readArgument Verbs.Replace s = readReplace s
+readArgument Verbs.Mask s = readMask s
+readArgument Verbs.First s = Option·map first (readCount s)
+readArgument Verbs.Last s = Option·map last (readCount s)
+readArgument Verbs.Unknown s = none
+
+-- an action from a text with no blanks around it
+unfoldable pub readAction : Text → Option Action
+readAction s = readArgument (verb (name s)) (argument s)
+
+-- ---- printing
+
+unfoldable pub printAction : Action → Text
+printAction keep = bytes "keep"
+printAction clear = bytes "clear"
+printAction null = bytes "null"
+printAction pseudonym = bytes "pseudonym"
+printAction (replace t) = bytes "replace " ++ t
+printAction (mask c) = bytes "mask " ++ (c ∷ [])
+printAction (first n) = bytes "first " ++ decimal n
+printAction (last n) = bytes "last " ++ decimal n
+
+-- ---- applying
+
+-- the text that an action writes in the place of the value v, under a key. "Keep and null give no replacement text"
+unfoldable pub apply : ℕ → Action → Text → Option Text
+apply key keep v = none
+apply key clear v = some []
+apply key null v = none
+apply key pseudonym v = some (P.pseudonym key v)
+apply key (replace t) v = some t
+apply key (mask c) v = some (replicate (length v) c)
+apply key (first n) v = some (take n v)
+apply key (last n) v = some (drop (length v - n) v)
+
+-- ---- the enum: an action whose replacement is a part of a text
+
+-- n bytes of t from index i on; no bytes stand for the replacement of a bare `replace`
+unfoldable pub replacement : Text → ℕ → ℕ → Text
+replacement t i n = cond (eqb n 0) (bytes "REDACTED") (part t i n)
+
+-- the action that a stands for in the text t
+unfoldable pub asAction : Text → HeldAction → Action
+asAction t Held.Keep = keep
+asAction t Held.Clear = clear
+asAction t Held.Null = null
+asAction t (Held.Replace i n) = replace (replacement t i n)
+asAction t (Held.Mask c) = mask c
+asAction t (Held.First n) = first n
+asAction t (Held.Last n) = last n
+asAction t Held.Pseudonym = pseudonym
+
+-- a replacement lies in the text t
+abbrev pub ActionHeld : Text → HeldAction → Type 0
+ActionHeld t Held.Keep = Unit {0}
+ActionHeld t Held.Clear = Unit {0}
+ActionHeld t Held.Null = Unit {0}
+ActionHeld t (Held.Replace i n) = i + n ≤ length t
+ActionHeld t (Held.Mask c) = Unit {0}
+ActionHeld t (Held.First n) = Unit {0}
+ActionHeld t (Held.Last n) = Unit {0}
+ActionHeld t Held.Pseudonym = Unit {0}
+
+-- the enum for what was read, with an argument of n bytes at index i of a text
+unfoldable pub heldAs : ℕ → ℕ → Action → HeldAction
+heldAs i n keep = Held.Keep
+heldAs i n clear = Held.Clear
+heldAs i n null = Held.Null
+heldAs i n pseudonym = Held.Pseudonym
+heldAs i n (replace t) = Held.Replace i n
+heldAs i n (mask c) = Held.Mask c
+heldAs i n (first k) = Held.First k
+heldAs i n (last k) = Held.Last k
+
+unfoldable pub heldAction : ℕ → ℕ → Option Action → ParsedAction
+heldAction i n none = BadAction
+heldAction i n (some a) = Parsed (heldAs i n a)
+
+-- where the argument of s begins
+unfoldable pub argumentAt : Text → ℕ
+argumentAt s = length s - length (argument s)
+
+-- what apply answers, and what it leaves in the buffer d: the text at its front, or nothing new
+unfoldable pub answer : Option Text → Applied
+answer none = Nothing
+answer (some w) = Written (length w)
+
+unfoldable pub applied : Text → Option Text → Text
+applied d none = d
+applied d (some w) = put d 0 w
+
+pub record AppliedIs (o : Option Text) (d d′ : Text) (r : Applied) : Type 0 where
+  pub result : r ≡ answer o
+  pub buffer : d′ ≡ applied d o
+
+-- the room that the text takes
+unfoldable pub room : Option Text → ℕ
+room none = 0
+room (some w) = length w

@@ -1,0 +1,31 @@
+-- What the contracts of private functions cite; no public contract rests on it. Assumes nothing: these are definitions.
+use mathlib.Core.Path.{_≡_}
+use mathlib.Core.List.{[], _∷_}
+use mathlib.Core.Option.{Option, none, some}
+use Prim.Native.Nat.{ℕ, _≤_}
+use lib.ListN.{length, drop}
+use Rattle.text.specs.Text.{Text}
+use Rattle.er7_redact.specs.declared.action.Action.{Action as HeldAction}
+use Rattle.er7_redact.specs.declared.action.ParsedAction.{ParsedAction}
+use Rattle.er7_redact.specs.declared.action.ParsedAction.the-variants.{Parsed, BadAction}
+use Rattle.er7_redact.specs.declared.action.Count.{Count}
+use Rattle.er7_redact.specs.declared.action.Count.the-variants.{Of, BadCount}
+use Rattle.er7_redact.specs.Action.{withoutPlus}
+
+-- the same for an action a that takes no argument
+unfoldable pub heldBare : HeldAction → Text → ParsedAction
+heldBare a [] = Parsed a
+heldBare a (x ∷ s) = BadAction
+
+unfoldable pub heldCount : Option ℕ → Count
+heldCount none = BadCount
+heldCount (some n) = Of n
+
+unfoldable pub heldCounted : (ℕ → HeldAction) → Count → ParsedAction
+heldCounted f (Of n) = Parsed (f n)
+heldCounted f BadCount = BadAction
+
+-- r is where the count begins that stands in s from index i on, behind its sign
+pub record CountFrom (s : Text) (i r : ℕ) : Type 0 where
+  pub high : r ≤ length s
+  pub is : drop r s ≡ withoutPlus (drop i s)

@@ -1,0 +1,4 @@
+pub mod Pseudonym
+pub mod Action
+pub mod Policy
+pub mod Inner

@@ -1,0 +1,321 @@
+// Actions: what redaction does to a value.
+use super::pseudonym::pseudonym;
+use text::bytes::Class;
+use text::bytes::byte_at;
+use text::bytes::copy_at;
+use text::bytes::fill_at;
+use text::bytes::is_word;
+use text::bytes::run_end;
+use text::decimal::Number;
+use text::decimal::decimal_at;
+use text::decimal::decimal_len;
+use text::decimal::number_at;
+ghost use mathlib.Core.Path.{_≡_};
+ghost use Prim.Native.Nat.{ℕ, _+_, _-_, _^_, _≤_, _<_};
+ghost use lib.ListN.{length, take, drop};
+ghost use Rattle.text.specs.Text.{Text, Wrote};
+ghost use Rattle.er7_redact.specs.Action.{verbWithArgument, verb, readCount, readMask, readArgument, readAction, printAction, replacement, asAction, ActionHeld, heldAction, argument, argumentAt, room, AppliedIs};
+ghost use Rattle.er7_redact.specs.Inner.{CountFrom, heldBare, heldCounted, heldCount};
+ghost use Rattle.er7_redact.specs.Action as Spec;
+
+// The eight actions. A replacement is len bytes of a text from index start on; len is 0 for that of a bare `replace`.
+pub enum Action {
+    Keep,
+    Clear,
+    Null,
+    Replace { start: usize, len: usize },
+    Mask(u8),
+    First(u64),
+    Last(u64),
+    Pseudonym,
+}
+
+pub enum ParsedAction {
+    Parsed(Action),
+    BadAction,
+}
+
+// An action's name.
+pub enum Verb {
+    Keep,
+    Clear,
+    Null,
+    Replace,
+    Mask,
+    First,
+    Last,
+    Pseudonym,
+    Unknown,
+}
+
+// The number of characters that `first` or `last` keeps.
+pub enum Count {
+    Of(u64),
+    BadCount,
+}
+
+// The length of the text that was written in a value's place.
+pub enum Applied {
+    Written(usize),
+    Nothing,
+}
+
+// Which action with an argument a word names.
+fn verb_with_argument(s: &[u8]) -> Verb
+    ensures { λ r. ⌜ r ≡ verbWithArgument (now (s .entry)) ⌝ }
+{
+    if is_word(s, b"replace") {
+        return Verb::Replace;
+    }
+    if is_word(s, b"mask") {
+        return Verb::Mask;
+    }
+    if is_word(s, b"first") {
+        return Verb::First;
+    }
+    if is_word(s, b"last") {
+        return Verb::Last;
+    }
+    Verb::Unknown
+}
+
+// Which action a word names.
+fn verb_of(s: &[u8]) -> Verb
+    ensures { λ r. ⌜ r ≡ verb (now (s .entry)) ⌝ }
+{
+    if is_word(s, b"keep") {
+        return Verb::Keep;
+    }
+    if is_word(s, b"clear") {
+        return Verb::Clear;
+    }
+    if is_word(s, b"null") {
+        return Verb::Null;
+    }
+    if is_word(s, b"pseudonym") {
+        return Verb::Pseudonym;
+    }
+    verb_with_argument(s)
+}
+
+// Where the count begins that stands in s from index i on, behind a `+` if there is one.
+fn without_plus(s: &[u8], i: usize) -> usize
+    requires { ⌜ i ≤ length (now s) ⌝ }
+    ensures { λ r. ⌜ CountFrom (now (s .entry)) i r ⌝ }
+{
+    if i < s.len() {
+        if s[i] == b'+' {
+            return i + 1;
+        }
+    }
+    i
+}
+
+// The count that stands in s from index i on, up to its end.
+fn read_count(s: &[u8], i: usize) -> Count
+    requires { ⌜ i ≤ length (now s) ⌝ }
+    ensures { λ r. ⌜ r ≡ heldCount (readCount (drop i (now (s .entry)))) ⌝ }
+{
+    let start = without_plus(s, i);
+    match number_at(s, start) {
+        Number::At(n, r) => {
+            if r == s.len() {
+                return Count::Of(n);
+            }
+            Count::BadCount
+        }
+        Number::Refused => Count::BadCount,
+    }
+}
+
+// The action a, which takes no argument, if nothing stands in s from index i on.
+fn read_bare(a: Action, s: &[u8], i: usize) -> ParsedAction
+    requires { ⌜ i ≤ length (now s) ⌝ }
+    ensures { λ r. ⌜ r ≡ heldBare a (drop i (now (s .entry))) ⌝ }
+{
+    if i == s.len() {
+        return ParsedAction::Parsed(a);
+    }
+    ParsedAction::BadAction
+}
+
+// `mask` with the argument that stands in s from index i on.
+fn read_mask(s: &[u8], i: usize) -> ParsedAction
+    requires { ⌜ i ≤ length (now s) ⌝ }
+    ensures { λ r. ⌜ ((j n : ℕ) → r ≡ heldAction j n (readMask (drop i (now (s .entry))))) ⌝ }
+{
+    if i == s.len() {
+        return ParsedAction::Parsed(Action::Mask(b'*'));
+    }
+    if i + 1 == s.len() {
+        return ParsedAction::Parsed(Action::Mask(s[i]));
+    }
+    ParsedAction::BadAction
+}
+
+// `first` and `last` with a count.
+fn first_of(count: Count) -> ParsedAction
+    ensures { λ r. ⌜ r ≡ heldCounted Action.First count ⌝ }
+{
+    match count {
+        Count::Of(n) => ParsedAction::Parsed(Action::First(n)),
+        Count::BadCount => ParsedAction::BadAction,
+    }
+}
+
+fn last_of(count: Count) -> ParsedAction
+    ensures { λ r. ⌜ r ≡ heldCounted Action.Last count ⌝ }
+{
+    match count {
+        Count::Of(n) => ParsedAction::Parsed(Action::Last(n)),
+        Count::BadCount => ParsedAction::BadAction,
+    }
+}
+
+// The action that v names, with the argument that stands in s from index i on; s stands in a text from index base on.
+fn read_argument(v: Verb, s: &[u8], i: usize, base: usize) -> ParsedAction
+    requires { ⌜ (i ≤ length (now s)) × (base + length (now s) < 2 ^ 64) ⌝ }
+    ensures { λ r. ⌜ r ≡ heldAction (base + i) (length (now (s .entry)) - i) (readArgument v (drop i (now (s .entry)))) ⌝ }
+{
+    match v {
+        Verb::Keep => read_bare(Action::Keep, s, i),
+        Verb::Clear => read_bare(Action::Clear, s, i),
+        Verb::Null => read_bare(Action::Null, s, i),
+        Verb::Pseudonym => read_bare(Action::Pseudonym, s, i),
+        Verb::Replace => {
+            let start = base + i;
+            let len = s.len() - i;
+            ParsedAction::Parsed(Action::Replace { start, len })
+        }
+        Verb::Mask => read_mask(s, i),
+        Verb::First => first_of(read_count(s, i)),
+        Verb::Last => last_of(read_count(s, i)),
+        Verb::Unknown => ParsedAction::BadAction,
+    }
+}
+
+// Reads s, which has no blanks around it and stands in a text from index base on, as an action.
+pub fn parse(s: &[u8], base: usize) -> ParsedAction
+    requires { ⌜ base + length (now s) < 2 ^ 64 ⌝ }
+    ensures { λ r. ⌜ r ≡ heldAction (base + argumentAt (now (s .entry))) (length (argument (now (s .entry)))) (readAction (now (s .entry))) ⌝ }
+{
+    let end = run_end(s, 0, Class::NotBlank);
+    let start = run_end(s, end, Class::Blank);
+    let v = verb_of(&s[0..end]);
+    read_argument(v, s, start, base)
+}
+
+// Writes a replacement, len bytes of text from index start on or that of a bare `replace`, to out from index at on, and returns the index behind it.
+fn put_replacement(text: &[u8], start: usize, len: usize, out: &mut [u8], at: usize) -> usize
+    requires { ⌜ (start + len ≤ length (now text)) × (at + length (replacement (now text) start len) ≤ length (now out)) ⌝ }
+    ensures { λ r. ⌜ Wrote (now (out .entry)) at (replacement (now (text .entry)) start len) (now (out .exit)) r ⌝ }
+{
+    if len == 0 {
+        return copy_at(out, at, b"REDACTED");
+    }
+    let end = start + len;
+    copy_at(out, at, &text[start..end])
+}
+
+// Writes the action a, whose replacement stands in text, to out from index at on, and returns the index behind it.
+pub fn print(a: Action, text: &[u8], out: &mut [u8], at: usize) -> usize
+    requires { ⌜ ActionHeld (now text) a × (at + length (printAction (asAction (now text) a)) ≤ length (now out)) ⌝ }
+    ensures { λ r. ⌜ Wrote (now (out .entry)) at (printAction (asAction (now (text .entry)) a)) (now (out .exit)) r ⌝ }
+{
+    match a {
+        Action::Keep => copy_at(out, at, b"keep"),
+        Action::Clear => copy_at(out, at, b"clear"),
+        Action::Null => copy_at(out, at, b"null"),
+        Action::Replace { start, len } => {
+            let k = copy_at(out, at, b"replace ");
+            put_replacement(text, start, len, out, k)
+        }
+        Action::Mask(c) => {
+            let k = copy_at(out, at, b"mask ");
+            byte_at(out, k, c)
+        }
+        Action::First(n) => {
+            let k = copy_at(out, at, b"first ");
+            decimal_at(out, k, n)
+        }
+        Action::Last(n) => {
+            let k = copy_at(out, at, b"last ");
+            decimal_at(out, k, n)
+        }
+        Action::Pseudonym => copy_at(out, at, b"pseudonym"),
+    }
+}
+
+// The length of a replacement of len bytes, or of that of a bare `replace`.
+fn replacement_len(len: usize) -> usize
+    ensures { λ r. ⌜ ((t : Text) (i : ℕ) → i + len ≤ length t → r ≡ length (replacement t i len)) × (r ≤ len + 8) ⌝ }
+{
+    if len == 0 {
+        return 8;
+    }
+    len
+}
+
+// The length of what print writes.
+pub fn printed_len(a: Action, text: &[u8]) -> usize
+    requires { ⌜ ActionHeld (now text) a ⌝ }
+    ensures { λ r. ⌜ r ≡ length (printAction (asAction (now (text .entry)) a)) ⌝ }
+{
+    match a {
+        Action::Keep => 4,
+        Action::Clear => 5,
+        Action::Null => 4,
+        Action::Replace { start: _, len } => replacement_len(len) + 8,
+        Action::Mask(_) => 6,
+        Action::First(n) => decimal_len(n) + 6,
+        Action::Last(n) => decimal_len(n) + 5,
+        Action::Pseudonym => 9,
+    }
+}
+
+// Writes the first n bytes of value, or all if there are no more, to the front of out, and returns their number.
+fn keep_first(value: &[u8], n: u64, out: &mut [u8]) -> usize
+    requires { ⌜ length (take n (now value)) ≤ length (now out) ⌝ }
+    ensures { λ r. ⌜ Wrote (now (out .entry)) 0 (take n (now (value .entry))) (now (out .exit)) r ⌝ }
+{
+    if n < value.len() as u64 {
+        let end = n as usize;
+        return copy_at(out, 0, &value[0..end]);
+    }
+    copy_at(out, 0, value)
+}
+
+// Writes the last n bytes of value, or all if there are no more, to the front of out, and returns their number.
+fn keep_last(value: &[u8], n: u64, out: &mut [u8]) -> usize
+    requires { ⌜ length (drop (length (now value) - n) (now value)) ≤ length (now out) ⌝ }
+    ensures { λ r. ⌜ Wrote (now (out .entry)) 0 (drop (length (now (value .entry)) - n) (now (value .entry))) (now (out .exit)) r ⌝ }
+{
+    if n < value.len() as u64 {
+        let start = value.len() - n as usize;
+        return copy_at(out, 0, &value[start..]);
+    }
+    copy_at(out, 0, value)
+}
+
+// Writes the text that the action a puts in the place of value, under key, to the front of out.
+pub fn apply(a: Action, text: &[u8], key: u64, value: &[u8], out: &mut [u8]) -> Applied
+    requires { ⌜ ActionHeld (now text) a × (room (Spec.apply key (asAction (now text) a) (now value)) ≤ length (now out)) ⌝ }
+    ensures { λ r. ⌜ AppliedIs (Spec.apply key (asAction (now (text .entry)) a) (now (value .entry))) (now (out .entry)) (now (out .exit)) r ⌝ }
+{
+    match a {
+        Action::Keep => Applied::Nothing,
+        Action::Clear => Applied::Written(0),
+        Action::Null => Applied::Nothing,
+        Action::Replace { start, len } => Applied::Written(put_replacement(
+            text,
+            start,
+            len,
+            out,
+            0,
+        )),
+        Action::Mask(c) => Applied::Written(fill_at(out, 0, value.len(), c)),
+        Action::First(n) => Applied::Written(keep_first(value, n, out)),
+        Action::Last(n) => Applied::Written(keep_last(value, n, out)),
+        Action::Pseudonym => Applied::Written(pseudonym(key, value, out)),
+    }
+}

@@ -1,0 +1,6 @@
+pub mod Laws
+pub mod Runs
+pub mod Words
+pub mod Writes
+pub mod Decimals
+pub mod Spelling

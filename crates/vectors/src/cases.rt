@@ -1,0 +1,226 @@
+// The cases: what each group computes from a line's fields.
+use super::lines::field;
+use super::lines::unescape;
+use er7::path;
+use er7::path::ParsedPath;
+use er7_redact::action;
+use er7_redact::action::Applied;
+use er7_redact::action::ParsedAction;
+use er7_redact::pseudonym::OFFSET;
+use er7_redact::pseudonym::fold;
+use er7_redact::pseudonym::pseudonym;
+use text::bytes::Class;
+use text::bytes::byte_at;
+use text::bytes::copy_at;
+use text::bytes::run_end;
+use text::bytes::same_bytes;
+use text::decimal::Number;
+use text::decimal::decimal_at;
+use text::decimal::number_at;
+use text::positional::hexadecimal_at;
+ghost use mathlib.Core.Path.{_≡_};
+ghost use Prim.Native.Nat.{_+_, _≤_, _<_};
+ghost use lib.ListN.{length};
+
+// The hash of a, in hexadecimal.
+fn fnv(a: &[u8], got: &mut [u8]) -> usize
+    requires { ⌜ length (now got) ≡ 8192 ⌝ }
+    ensures { λ r. ⌜ r ≤ 8192 ⌝ }
+{
+    hexadecimal_at(got, 0, fold(OFFSET, a))
+}
+
+// The number at the front of a, 0 if there is none.
+fn number(a: &[u8]) -> u64 {
+    match number_at(a, 0) {
+        Number::At(n, _) => n,
+        Number::Refused => 0,
+    }
+}
+
+// Writes n to got from index at on, and returns the index behind it.
+fn put_number(got: &mut [u8], at: usize, n: u64) -> usize
+    requires { ⌜ at + 20 ≤ length (now got) ⌝ }
+    ensures { λ r. ⌜ r ≤ at + 20 ⌝ }
+{
+    decimal_at(got, at, n)
+}
+
+// The number at the front of a and the index behind it.
+fn decimal(a: &[u8], got: &mut [u8]) -> usize
+    requires { ⌜ length (now got) ≡ 8192 ⌝ }
+    ensures { λ r. ⌜ r ≤ 8192 ⌝ }
+{
+    match number_at(a, 0) {
+        Number::At(n, end) => {
+            let k = put_number(got, 0, n);
+            let j = byte_at(got, k, b' ');
+            put_number(got, j, end as u64)
+        }
+        Number::Refused => copy_at(got, 0, b"refused"),
+    }
+}
+
+// The number at the front of a, in hexadecimal.
+fn hexadecimal(a: &[u8], got: &mut [u8]) -> usize
+    requires { ⌜ length (now got) ≡ 8192 ⌝ }
+    ensures { λ r. ⌜ r ≤ 8192 ⌝ }
+{
+    hexadecimal_at(got, 0, number(a))
+}
+
+// The pseudonym of the value b under the key a.
+fn pseudonym_of(a: &[u8], b: &[u8], got: &mut [u8]) -> usize
+    requires { ⌜ length (now got) ≡ 8192 ⌝ }
+    ensures { λ r. ⌜ r ≤ 8192 ⌝ }
+{
+    pseudonym(number(a), b, got)
+}
+
+// The path a, read and printed.
+fn path(a: &[u8], got: &mut [u8]) -> usize
+    requires { ⌜ length (now got) ≡ 8192 ⌝ }
+    ensures { λ r. ⌜ r ≤ 8192 ⌝ }
+{
+    match path::parse(a, 0) {
+        ParsedPath::Parsed(p) => {
+            if 8192 < path::printed_len(p, a) {
+                return 0;
+            }
+            path::print(p, a, got, 0)
+        }
+        ParsedPath::BadPath => copy_at(got, 0, b"refused"),
+    }
+}
+
+// The action a, read and printed.
+fn action(a: &[u8], got: &mut [u8]) -> usize
+    requires { ⌜ length (now got) ≡ 8192 ⌝ }
+    ensures { λ r. ⌜ r ≤ 8192 ⌝ }
+{
+    match action::parse(a, 0) {
+        ParsedAction::Parsed(p) => {
+            if 8192 < action::printed_len(p, a) {
+                return 0;
+            }
+            action::print(p, a, got, 0)
+        }
+        ParsedAction::BadAction => copy_at(got, 0, b"refused"),
+    }
+}
+
+// What the action a makes of the value c under the key b.
+fn apply(a: &[u8], b: &[u8], c: &[u8], got: &mut [u8]) -> usize
+    requires { ⌜ (length (now got) ≡ 8192) × (length (now a) ≤ 4000) × (length (now c) ≤ 4000) ⌝ }
+    ensures { λ r. ⌜ r ≤ 8192 ⌝ }
+{
+    match action::parse(a, 0) {
+        ParsedAction::Parsed(p) => match action::apply(p, a, number(b), c, got) {
+            Applied::Written(n) => n,
+            Applied::Nothing => copy_at(got, 0, b"nothing"),
+        },
+        ParsedAction::BadAction => copy_at(got, 0, b"refused"),
+    }
+}
+
+// A group's number.
+fn group_of(name: &[u8]) -> usize
+    ensures { λ r. ⌜ r ≤ 7 ⌝ }
+{
+    if same_bytes(name, b"fnv") {
+        return 0;
+    }
+    if same_bytes(name, b"pseudonym") {
+        return 1;
+    }
+    if same_bytes(name, b"decimal") {
+        return 2;
+    }
+    if same_bytes(name, b"hexadecimal") {
+        return 3;
+    }
+    if same_bytes(name, b"path") {
+        return 4;
+    }
+    if same_bytes(name, b"action") {
+        return 5;
+    }
+    if same_bytes(name, b"apply") {
+        return 6;
+    }
+    7
+}
+
+// What comes out of a case of the group.
+fn answer(group: usize, a: &[u8], b: &[u8], c: &[u8], got: &mut [u8]) -> usize
+    requires { ⌜ (length (now got) ≡ 8192) × (length (now a) ≤ 4000) × (length (now c) ≤ 4000) ⌝ }
+    ensures { λ r. ⌜ r ≤ 8192 ⌝ }
+{
+    match group {
+        0 => fnv(a, got),
+        1 => pseudonym_of(a, b, got),
+        2 => decimal(a, got),
+        3 => hexadecimal(a, got),
+        4 => path(a, got),
+        5 => action(a, got),
+        6 => apply(a, b, c, got),
+        _ => copy_at(got, 0, b"unknown group"),
+    }
+}
+
+// Puts field k of the line, with its escapes read, at the front of out, and returns its length.
+fn input(line: &[u8], k: usize, out: &mut [u8]) -> usize
+    ensures { λ r. ⌜ r ≤ length (now (out .exit)) ⌝ }
+{
+    let span = field(line, k);
+    let start = span.start;
+    let end = span.end;
+    unescape(&line[start..end], out)
+}
+
+// Whether the case that a line states comes out as field 1 says.
+fn is_right(group: usize, line: &[u8]) -> bool {
+    let mut a = [0u8; 4000];
+    let mut b = [0u8; 4000];
+    let mut c = [0u8; 4000];
+    let mut want = [0u8; 8192];
+    let mut got = [0u8; 8192];
+    let n_want = input(line, 1, &mut want);
+    let n_a = input(line, 2, &mut a);
+    let n_b = input(line, 3, &mut b);
+    let n_c = input(line, 4, &mut c);
+    let n = answer(group, &a[0..n_a], &b[0..n_b], &c[0..n_c], &mut got);
+    same_bytes(&got[0..n], &want[0..n_want])
+}
+
+// Runs the case that a line states, and counts it in its group's pair: how many were right, and how many there were.
+fn run_line(line: &[u8], tally: &mut [u64; 16]) {
+    let name = field(line, 0);
+    let end = name.end;
+    let group = group_of(&line[0..end]);
+    if is_right(group, line) {
+        tally[group * 2] = add_one(tally[group * 2]);
+    }
+    tally[group * 2 + 1] = add_one(tally[group * 2 + 1]);
+}
+
+fn add_one(n: u64) -> u64 {
+    if n < 1000000 { n + 1 } else { n }
+}
+
+// Runs every line that is not empty and does not begin with `#`.
+pub fn run(text: &[u8], tally: &mut [u64; 16]) {
+    let mut i = 0;
+    while i < text.len() {
+        let end = run_end(text, i, Class::AllBut(b'\n'));
+        if i < end {
+            if text[i] != b'#' {
+                run_line(&text[i..end], tally);
+            }
+        }
+        if end == text.len() {
+            return;
+        }
+        i = end + 1;
+    }
+}

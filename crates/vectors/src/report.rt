@@ -1,0 +1,58 @@
+// The report: a line for each group, and one for all.
+
+// Writes a group's name.
+fn print_name(fd: i32, group: usize) {
+    match group {
+        0 => io::write_all(fd, b"fnv"),
+        1 => io::write_all(fd, b"pseudonym"),
+        2 => io::write_all(fd, b"decimal"),
+        3 => io::write_all(fd, b"hexadecimal"),
+        4 => io::write_all(fd, b"path"),
+        5 => io::write_all(fd, b"action"),
+        6 => io::write_all(fd, b"apply"),
+        _ => io::write_all(fd, b"unknown"),
+    }
+    ;
+}
+
+// Writes how many cases came out right, and how many there were.
+fn print_pair(fd: i32, right: u64, all: u64) {
+    io::write_all(fd, b" ");
+    io::print_decimal(fd, right);
+    io::write_all(fd, b" of ");
+    io::print_decimal(fd, all);
+    io::write_all(fd, b"\n");
+}
+
+fn add(a: u64, b: u64) -> u64 {
+    if a < 1000000000 {
+        if b < 1000000000 {
+            return a + b;
+        }
+    }
+    a
+}
+
+fn print_all(fd: i32, right: u64, all: u64) {
+    io::write_all(fd, b"all");
+    print_pair(fd, right, all);
+}
+
+// Writes a line for each group that has cases, and one for all.
+pub fn print(fd: i32, tally: &[u64; 16]) {
+    let mut right = 0;
+    let mut all = 0;
+    let mut group = 0;
+    while group < 8 {
+        let r = tally[group * 2];
+        let n = tally[group * 2 + 1];
+        if 0 < n {
+            print_name(fd, group);
+            print_pair(fd, r, n);
+        }
+        right = add(right, r);
+        all = add(all, n);
+        group += 1;
+    }
+    print_all(fd, right, all);
+}
