@@ -159,10 +159,6 @@ pub applied-text : {o : Option Text} {d d′ w : Text} {r : ℕ} → o ≡ some 
 unfolding answer applied
 applied-text {o} {d} {d′} {w} {r} e g = record { result = rw (e, g .end, zero-add); buffer = rw (e, g .text) }
 
-pub room-text : {o : Option Text} {w : Text} {n : ℕ} → o ≡ some w → room o ≤ n → length w ≤ n
-unfolding room
-room-text e h = rw e at h
-
 -- a text that is written takes no more room than the policy's text, the value and 16 bytes together
 pub room-most : (key : ℕ) (t : Text) (h : HeldAction) (v : Text) → ActionHeld t h → room (apply key (asAction t h) v) ≤ length t + length v + 16
 unfolding apply asAction room

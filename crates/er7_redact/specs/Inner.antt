@@ -12,11 +12,12 @@ use Rattle.er7_redact.specs.declared.action.Count.{Count}
 use Rattle.er7_redact.specs.declared.action.Count.the-variants.{Of, BadCount}
 use Rattle.er7_redact.specs.Action.{withoutPlus}
 
--- the same for an action a that takes no argument
+-- the enum for an action a that takes no argument, where s stands in the argument's place
 unfoldable pub heldBare : HeldAction → Text → ParsedAction
 heldBare a [] = Parsed a
 heldBare a (x ∷ s) = BadAction
 
+-- the enum for a count that was read, and for an action with that count
 unfoldable pub heldCount : Option ℕ → Count
 heldCount none = BadCount
 heldCount (some n) = Of n

@@ -4,7 +4,7 @@ use mathlib.Core.Bool.{Bool, true, false, not, _&&_}
 use mathlib.Core.List.{[], _∷_, _++_}
 use Prim.Native.Nat.{ℕ, zero, suc, _+_, _*_, _-_, _/_, _%_, _^_, _≤_, _<_}
 use native.Mathlib.Omega.{arith}
-use borrow.Author.Tests.{lt-ltb, le-ltb, le-leb, lt-leb, leb-true, ltb-true, ltb-false, not-true, not-false}
+use borrow.Author.Tests.{lt-ltb, le-ltb, le-leb, lt-leb, ltb-true, ltb-false, not-true, not-false}
 use lib.Dec.{leb, ltb}
 use lib.ListN.{length, drop, getD, set, length-append}
 use Rattle.text.specs.declared.bytes.Class.the-variants.{Digit}
@@ -13,7 +13,7 @@ use Rattle.text.specs.declared.decimal.Number.the-variants.{At, Refused}
 use Rattle.text.specs.Text.{Text, isDigit, isIn, isEmpty, run, rest, Wrote}
 use Rattle.text.specs.Number.{digits, decimal, worth, Taken, taken, refused, takeNumber, asTaken, TakenAt}
 use Rattle.text.specs.Inner.{hasRoom}
-use Rattle.text.proofs.Laws.{split, and-left, and-right, and-true, by-cond, clash}
+use Rattle.text.proofs.Laws.{split, at-least, at-most, and-left, and-right, and-true, by-cond, clash}
 use Rattle.text.proofs.Runs.{run-yes, run-no, run-none, rest-yes, rest-no, rest-none, all, stop, run-all, rest-all, all-append, all-run, run-rest-length}
 use Rattle.text.proofs.Writes.{wrote-byte, wrote-length, wrote-then}
 
@@ -167,11 +167,11 @@ digit-no x e h = sym e ∙ not-true _ h
 
 pub digit-low : (x : ℕ) → isDigit x ≡ true → 48 ≤ x
 unfolding isDigit
-digit-low x h = leb-true 48 x (and-left (leb 48 x) (leb x 57) h)
+digit-low x h = at-least 48 x 57 h
 
 pub digit-high : (x : ℕ) → isDigit x ≡ true → x ≤ 57
 unfolding isDigit
-digit-high x h = leb-true x 57 (and-right (leb 48 x) (leb x 57) h)
+digit-high x h = at-most 48 x 57 h
 
 -- an answer, as the arm of a match knows it
 pub known : {f : Text → Taken} {s : Text} {i : ℕ} {a b : Number} → TakenAt f s i a → a ≡ b → TakenAt f s i b

@@ -1,4 +1,4 @@
--- Laws of tests, runs, words, and writes. Assumes nothing.
+-- Laws of tests. Assumes nothing.
 use mathlib.Core.Path.{_≡_, refl}
 use mathlib.Core.Bool.{Bool, true, false, cond, _&&_}
 use mathlib.Core.Option.{Option, none, some}
@@ -7,8 +7,6 @@ use native.Mathlib.Decide.{decLt}
 use native.Mathlib.Omega.{arith}
 use borrow.Author.Tests.{leb-true, eqb-false}
 use lib.Dec.{leb}
-
--- ---- tests
 
 pub split {ℓ} : {X : Type ℓ} (a b : ℕ) → (a < b → X) → (b ≤ a → X) → X
 split a b f g = elim (decLt a b) [ yes h ↦ f h | no h ↦ g (omega arith) ]
@@ -24,6 +22,9 @@ and-right false false e = e
 
 pub clash : {X : Type 0} → true ≡ false → X
 clash e = absurd (eqb-false 0 0 e refl)
+
+pub at-least : (a x b : ℕ) → leb a x && leb x b ≡ true → a ≤ x
+at-least a x b e = leb-true a x (and-left (leb a x) (leb x b) e)
 
 pub at-most : (a x b : ℕ) → leb a x && leb x b ≡ true → x ≤ b
 at-most a x b e = leb-true x b (and-right (leb a x) (leb x b) e)

@@ -11,6 +11,7 @@ use Rattle.text.specs.Text.{Text, lowerByte, lower, same, isWord}
 use Rattle.text.proofs.Laws.{and-left, and-right, and-false, clash}
 use Rattle.text.proofs.Runs.{drop-step}
 
+-- `same` tells whether two texts are equal
 pub same-refl : (s : Text) → same s s ≡ true
 unfolding same
 same-refl [] = refl

@@ -91,11 +91,11 @@ filled-wrote d at v n {d′} {i} e h l =
     let k : i - at ≡ n = omega arith in
     record { end = rw (length-replicate n v) h; high = omega arith; text = e ∙ rw k }
 
-pub filled-zeroed : (d : Text) (at i : ℕ) → length d ≤ i → at ≤ i → i ≤ length d → filled d at 0 i ≡ zeroed d at
-unfolding filled zeroed put
-filled-zeroed d at i h l k =
-    let e : i ≡ length d = omega arith in
-    rw (drop-of-length-le d {i = at + length {A = ℕ} (replicate (i - at) 0)} (simp length-replicate (omega arith)), append-nil, e)
+-- zeros up to the end
+pub wrote-zeros : {d d′ : Text} {at r : ℕ} → at ≤ length d → Wrote d at (replicate (length d - at) 0) d′ r → d′ ≡ zeroed d at
+unfolding zeroed put
+wrote-zeros {d} {d′} {at} {r} h w =
+    w .text ∙ rw (drop-of-length-le d {i = at + length {A = ℕ} (replicate (length d - at) 0)} (simp length-replicate (omega arith)), append-nil)
 
 -- a byte in front of what was written
 pub put-before : (d : Text) (at v : ℕ) (t : Text) → at + suc (length t) ≤ length d → set (put d (at + 1) t) at v ≡ put d at (v ∷ t)

@@ -136,9 +136,6 @@ pub fn zero_from(buf: &mut [u8], at: usize)
     requires { ⌜ at ≤ length (now buf) ⌝ }
     ensures { λ _. ⌜ now (buf .exit) ≡ zeroed (now (buf .entry)) at ⌝ }
 {
-    let mut i = at;
-    while i < buf.len() {
-        buf[i] = 0;
-        i += 1;
-    }
+    let n = buf.len() - at;
+    fill_at(buf, at, n, 0);
 }
