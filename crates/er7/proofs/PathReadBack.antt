@@ -9,10 +9,10 @@ use borrow.Author.Tests.{eqb-false, ne-eqb, not-true}
 use lib.Dec.{eqb}
 use lib.ListN.{length, take, drop, length-append}
 use lib.Seq.{take-take, take-append-seam}
-use Rattle.text.specs.Text.{Text, isDigit, isUpper, isLower, isAlphanumeric, isEmpty, run, rest, part}
+use Rattle.text.specs.Text.{Text, isDigit, isUpper, isLower, isAlphanumeric, isEmpty, run, rest, part, all}
 use Rattle.text.specs.Number.{decimal, Taken, taken, refused, takeNumber}
 use Rattle.text.proofs.Laws.{by-cond, zero-or, Maybe}
-use Rattle.text.proofs.Runs.{all, stop, run-all, rest-all, all-run, run-rest, run-rest-length}
+use Rattle.text.proofs.Runs.{stop, run-all, rest-all, all-run, run-rest, run-rest-length}
 use Rattle.text.proofs.Decimals.{OfTaken, NumberFrom, number-from, number-back}
 use Rattle.er7.specs.declared.path.Path.{Path as HeldPath}
 use Rattle.er7.specs.declared.path.ParsedPath.{ParsedPath}

@@ -9,10 +9,10 @@ use borrow.Author.Tests.{ne-eqb, not-true}
 use lib.Dec.{eqb}
 use lib.ListN.{length, drop}
 use lib.Seq.{drop-drop, drop-append-seam}
-use Rattle.text.specs.Text.{Text, bytes, isDigit, isUpper, isBlank, notBlank, isEmpty, lowerByte, lower, same, isWord, run, rest, part}
+use Rattle.text.specs.Text.{Text, bytes, isDigit, isUpper, isBlank, notBlank, isEmpty, lowerByte, lower, same, isWord, run, rest, part, all}
 use Rattle.text.specs.Number.{decimal, Taken, taken, refused, takeNumber}
 use Rattle.text.proofs.Laws.{Maybe, and-left, clash}
-use Rattle.text.proofs.Runs.{all, stop, rest-stop, stop-rest, run-rest, run-rest-length, part-behind}
+use Rattle.text.proofs.Runs.{stop, rest-stop, stop-rest, run-rest, run-rest-length, part-behind}
 use Rattle.text.proofs.Decimals.{OfTaken, NumberFrom, number-from, number-back, decimal-all, digit-low}
 use Rattle.er7_redact.specs.declared.action.Verb.{Verb}
 use Rattle.er7_redact.specs.declared.action.Verb.the-variants as Verbs
@@ -75,10 +75,20 @@ action-back (last n) (good-last h) = rw (rest-stop isBlank (decimal n) (decimal-
 
 -- ---- what reading gives
 
-bare-from : (a : Action) (s : Text) → GoodAction a → Maybe GoodAction (bare a s)
+-- what holds of an action without an argument, and of one with a count
+pub bare-from : (P : Action → Type 0) (a : Action) (s : Text) → P a → Maybe P (bare a s)
 unfolding bare
-bare-from a [] g = g
-bare-from a (x ∷ s) g = tt
+bare-from P a [] g = g
+bare-from P a (x ∷ s) g = tt
+
+pub count-from : (P : Action → Type 0) (f : ℕ → Action) → ((n : ℕ) → n < 2 ^ 64 → P (f n)) → (s : Text) → Maybe P (Option·map f (readCount s))
+unfolding readCount
+count-from P f g s = go (takeNumber (withoutPlus s)) (number-from (withoutPlus s))
+  where
+    go : (t : Taken) → OfTaken (NumberFrom (withoutPlus s)) t → Maybe P (Option·map f (whole t))
+    go (taken n []) h = unfold whole in g n (h .small)
+    go (taken n (x ∷ r)) h = unfold whole in tt
+    go refused h = unfold whole in tt
 
 replace-from : (s : Text) → stop isBlank s ≡ true → Maybe GoodAction (readReplace s)
 unfolding readReplace stop isEmpty bytes isBlank
@@ -91,25 +101,16 @@ mask-from [] h = good-mask refl
 mask-from (x ∷ []) h = good-mask (not-true _ h)
 mask-from (x ∷ y ∷ s) h = tt
 
-count-from : (f : ℕ → Action) → ((n : ℕ) → n < 2 ^ 64 → GoodAction (f n)) → (s : Text) → Maybe GoodAction (Option·map f (readCount s))
-unfolding readCount
-count-from f g s = go (takeNumber (withoutPlus s)) (number-from (withoutPlus s))
-  where
-    go : (t : Taken) → OfTaken (NumberFrom (withoutPlus s)) t → Maybe GoodAction (Option·map f (whole t))
-    go (taken n []) h = unfold whole in g n (h .small)
-    go (taken n (x ∷ r)) h = unfold whole in tt
-    go refused h = unfold whole in tt
-
 argument-from : (v : Verb) (s : Text) → stop isBlank s ≡ true → Maybe GoodAction (readArgument v s)
 unfolding readArgument
-argument-from Verbs.Keep s h = bare-from keep s good-keep
-argument-from Verbs.Clear s h = bare-from clear s good-clear
-argument-from Verbs.Null s h = bare-from null s good-null
+argument-from Verbs.Keep s h = bare-from GoodAction keep s good-keep
+argument-from Verbs.Clear s h = bare-from GoodAction clear s good-clear
+argument-from Verbs.Null s h = bare-from GoodAction null s good-null
 argument-from Verbs.Replace s h = replace-from s h
 argument-from Verbs.Mask s h = mask-from s h
-argument-from Verbs.First s h = count-from first (λ n l. good-first l) s
-argument-from Verbs.Last s h = count-from last (λ n l. good-last l) s
-argument-from Verbs.Pseudonym s h = bare-from pseudonym s good-pseudonym
+argument-from Verbs.First s h = count-from GoodAction first (λ n l. good-first l) s
+argument-from Verbs.Last s h = count-from GoodAction last (λ n l. good-last l) s
+argument-from Verbs.Pseudonym s h = bare-from GoodAction pseudonym s good-pseudonym
 argument-from Verbs.Unknown s h = tt
 
 pub action-from : (s : Text) → Maybe GoodAction (readAction s)
@@ -129,28 +130,19 @@ module _ (t : Text) (i : ℕ) where
   stands : Text → Action → Type 0
   stands u a = asAction t (heldAs i (length u) a) ≡ a
 
-  bare-stands : (u : Text) (a : Action) → stands u a → Maybe (stands u) (bare a u)
-  unfolding bare
-  bare-stands [] a g = g
-  bare-stands (x ∷ u) a g = tt
-
-  count-stands : (u : Text) (f : ℕ → Action) → ((n : ℕ) → stands u (f n)) → (o : Option ℕ) → Maybe (stands u) (Option·map f o)
-  count-stands u f g none = tt
-  count-stands u f g (some n) = g n
-
   argument-stands : (v : Verb) (u : Text) → part t i (length u) ≡ u → Maybe (stands u) (readArgument v u)
   unfolding readArgument stands asAction heldAs
-  argument-stands Verbs.Keep u e = bare-stands u keep refl
-  argument-stands Verbs.Clear u e = bare-stands u clear refl
-  argument-stands Verbs.Null u e = bare-stands u null refl
+  argument-stands Verbs.Keep u e = bare-from (stands u) keep u refl
+  argument-stands Verbs.Clear u e = bare-from (stands u) clear u refl
+  argument-stands Verbs.Null u e = bare-from (stands u) null u refl
   argument-stands Verbs.Replace [] e = unfold readReplace replacement in refl
   argument-stands Verbs.Replace (x ∷ u) e = unfold readReplace in ap replace (replacement-part t i (suc (length u)) (omega arith) ∙ e)
   argument-stands Verbs.Mask [] e = unfold readMask in refl
   argument-stands Verbs.Mask (x ∷ []) e = unfold readMask in refl
   argument-stands Verbs.Mask (x ∷ y ∷ u) e = unfold readMask in tt
-  argument-stands Verbs.First u e = count-stands u first (λ n. refl) (readCount u)
-  argument-stands Verbs.Last u e = count-stands u last (λ n. refl) (readCount u)
-  argument-stands Verbs.Pseudonym u e = bare-stands u pseudonym refl
+  argument-stands Verbs.First u e = count-from (stands u) first (λ n h. refl) u
+  argument-stands Verbs.Last u e = count-from (stands u) last (λ n h. refl) u
+  argument-stands Verbs.Pseudonym u e = bare-from (stands u) pseudonym u refl
   argument-stands Verbs.Unknown u e = tt
 
 -- the argument is what is left of s behind the name and the blanks

@@ -1,6 +1,6 @@
 -- action.rs: the eight actions, reading, printing and applying them. Assumes nothing: these are definitions.
 use mathlib.Core.Path.{_≡_}
-use mathlib.Core.Bool.{cond}
+use mathlib.Core.Bool.{Bool, cond}
 use mathlib.Core.List.{[], _∷_, _++_}
 use mathlib.Core.Option.{Option, none, some, Option·map}
 use Prim.Native.Nat.{ℕ, _+_, _-_, _≤_}
@@ -23,6 +23,23 @@ pub data Action : Type 0 where
   keep clear null pseudonym : Action
   replace : Text → Action
   mask first last : ℕ → Action
+
+-- an action as a number, each of the eight by its own
+unfoldable pub kind : Action → ℕ
+kind keep = 0
+kind clear = 1
+kind null = 2
+kind pseudonym = 3
+kind (replace t) = 4
+kind (mask c) = 5
+kind (first n) = 6
+kind (last n) = 7
+
+unfoldable pub isKeep : Action → Bool
+isKeep a = eqb (kind a) 0
+
+unfoldable pub isNullAction : Action → Bool
+isNullAction a = eqb (kind a) 2
 
 -- ---- reading
 

@@ -1,14 +1,23 @@
 -- Worked examples, as rows of one table, and the test that each passes. Assumes nothing: these are definitions.
-use mathlib.Core.Bool.{Bool, true, false, _&&_}
-use mathlib.Core.List.{List, [], _∷_}
+use mathlib.Core.Bool.{Bool, true, false, not, _&&_}
+use mathlib.Core.List.{List, [], _∷_, _++_}
 use mathlib.Core.Option.{Option, none, some}
-use Prim.Native.Nat.{ℕ}
+use Prim.Native.Nat.{ℕ, zero, suc}
 use Prim.Native.String.{String}
 use lib.Dec.{eqb}
-use Rattle.text.specs.Text.{Text, bytes, same}
+use lib.ListN.{length, drop, replicate}
+use Rattle.text.specs.Text.{Text, bytes, same, all, begins}
 use Rattle.er7.specs.Path.{Path, readPath, printPath}
 use Rattle.er7_redact.specs.Pseudonym.{OFFSET, fold}
 use Rattle.er7_redact.specs.Action.{Action, keep, clear, null, pseudonym, replace, mask, first, last, readAction, apply}
+use Rattle.er7.specs.declared.separators.Separators.{Separators}
+use Rattle.refusal.specs.declared.Refusal.{Refusal}
+use Rattle.refusal.specs.Refusal.{number}
+use Rattle.message_model.specs.Message.{Leaf, leaf, Segment, segment, messageOf, messageFault, printMessage}
+use Rattle.message_model.specs.Value.{value, encode, isWholeWord}
+use Rattle.policy_model.specs.Policy.{PolicyRead, read, refused, readPolicy, printPolicy}
+use Rattle.run_model.specs.Entries as E
+use Rattle.run_model.specs.Entries.{Lent, Outcome, Answer, done, redactAnswer, redactOutcome, appendAnswer, builtinAnswer, payloadAnswer}
 
 pub data Row : Type 0 where
   -- the text reads as this path, with its segment, occurrence, field, repetition, component and subcomponent
@@ -22,6 +31,38 @@ pub data Row : Type 0 where
   applies : ℕ → Action → String → String → Row
   -- the FNV-1a hash of the text
   hash-is : String → ℕ → Row
+  -- the text is read as a policy and printed so
+  policy-prints : String → String → Row
+  -- the policy is refused with this number and line
+  policy-refused : String → ℕ → ℕ → Row
+  -- the message is refused with this number; 0 if it is not
+  message-fault : String → ℕ → Row
+  -- the message prints as it came
+  message-prints : String → Row
+  -- the places and texts of the leaves of the last segment: field, repetition, component, subcomponent, and the text with its length behind it
+  leaves-are : String → List ℕ → Row
+  -- with the delimiters `|^~\\&`, the first text is read as the second, and the second written as the third
+  value-is : String → String → String → Row
+  -- message, policy and key give this text, report and number of rows, with every byte of every lent buffer
+  redacts : String → String → ℕ → String → String → ℕ → Row
+  -- message and policy give, under key 0, the first text and not the second, which a slip would give
+  not-slipped : String → String → String → String → Row
+  -- message and policy are refused with this number and line
+  redact-refused : String → String → ℕ → ℕ → Row
+  -- two policies are merged and printed so
+  appends : String → String → String → Row
+  -- the built-in of this number prints so
+  builtin-prints : ℕ → String → Row
+  -- a payload under a policy and key 0 becomes the third text
+  payload-becomes : String → String → String → Row
+  -- a payload under a policy is refused with this number
+  payload-refused : String → String → ℕ → Row
+  -- a policy of so many rules is refused with this number and line; 0 and 0 if it is not
+  rules-give : ℕ → ℕ → ℕ → Row
+  -- a message with so many segments behind the header, each of so many fields with so many bytes, is refused with this number; 0 if it is not
+  segments-give : ℕ → ℕ → ℕ → ℕ → Row
+  -- is the first text a whole word of the second?
+  whole-word : String → String → Bool → Row
 
 -- ---- tests of two values
 
@@ -56,6 +97,68 @@ unfoldable pub prints : {X : Type 0} → (X → Text) → Option X → Text → 
 prints f none t = false
 prints f (some x) t = same (f x) t
 
+unfoldable pub sameBool : Bool → Bool → Bool
+sameBool true b = b
+sameBool false b = not b
+
+unfoldable pub policyPrints : PolicyRead → Text → Bool
+policyPrints (read p) t = same (printPolicy p) t
+policyPrints (refused e n) t = false
+
+unfoldable pub policyRefused : PolicyRead → ℕ → ℕ → Bool
+policyRefused (read p) n l = false
+policyRefused (refused e k) n l = eqb (number e) n && eqb k l
+
+unfoldable pub faultNumber : Option Refusal → ℕ
+faultNumber none = 0
+faultNumber (some e) = number e
+
+unfoldable pub leafNumbers : List Leaf → List ℕ
+leafNumbers [] = []
+leafNumbers (leaf p n none ∷ xs) = leafNumbers xs
+leafNumbers (leaf p n (some t) ∷ xs) =
+    p .field ∷ p .repetition ∷ p .component ∷ p .subcomponent ∷ (t ++ (length t ∷ leafNumbers xs))
+
+unfoldable pub lastLeaves : List Segment → List ℕ
+lastLeaves [] = []
+lastLeaves (segment g xs ∷ []) = leafNumbers xs
+lastLeaves (segment g xs ∷ z ∷ ss) = lastLeaves (z ∷ ss)
+
+unfoldable pub usual : Separators
+usual = record { field = 0x7c; component = 0x5e; repetition = 0x7e; escape = 0x5c; subcomponent = 0x26 }
+
+unfoldable pub policyFault : PolicyRead → ℕ → ℕ → Bool
+policyFault (read p) n l = eqb n 0 && eqb l 0
+policyFault (refused e k) n l = eqb (number e) n && eqb k l
+
+unfoldable pub times : ℕ → Text → Text
+times zero t = []
+times (suc k) t = t ++ times k t
+
+-- the buffers that striplog lends
+unfoldable pub lent : Lent
+lent = record { output = 49152; report = 65536; scratch = 49152 }
+
+unfoldable pub isZero : ℕ → Bool
+isZero x = eqb x 0
+
+-- a buffer of n bytes has t at its front and zeros behind
+unfoldable pub holds : Text → Text → ℕ → Bool
+holds d t n = begins t d && all isZero (drop (length t) d) && eqb (length d) n
+
+unfoldable pub sameOutcome : Outcome → Text → Text → ℕ → Bool
+sameOutcome o t r n =
+    eqb (o .number) 0 && eqb (o .line) 0 && eqb (o .textLength) (length t) && eqb (o .reportLength) (length r) && eqb (o .rows) n
+    && holds (o .output) t (lent .output) && holds (o .report) r (lent .report) && holds (o .scratch) [] (lent .scratch)
+
+unfoldable pub gives : Answer → Text → Bool
+gives (done t ρs) u = same t u
+gives (E.refused e n) u = false
+
+unfoldable pub refuses : Answer → ℕ → ℕ → Bool
+refuses (done t ρs) n l = false
+refuses (E.refused e k) n l = eqb (number e) n && eqb k l
+
 -- ---- the table
 
 unfoldable pub right : Row → Bool
@@ -67,6 +170,22 @@ right (action-is s a) = is sameAction (readAction (bytes s)) a
 right (action-refused s) = isNone (readAction (bytes s))
 right (applies key a s t) = is same (apply key a (bytes s)) (bytes t)
 right (hash-is s h) = eqb (fold OFFSET (bytes s)) h
+right (policy-prints s t) = policyPrints (readPolicy (bytes s)) (bytes t)
+right (policy-refused s n l) = policyRefused (readPolicy (bytes s)) n l
+right (message-fault s n) = eqb (faultNumber (messageFault (bytes s))) n
+right (message-prints s) = same (printMessage (messageOf (bytes s))) (bytes s)
+right (leaves-are s ns) = same (lastLeaves (messageOf (bytes s) .segments)) ns
+right (value-is s v w) = same (value usual (bytes s)) (bytes v) && same (encode usual (bytes v)) (bytes w)
+right (redacts m p key t r n) = sameOutcome (redactOutcome lent (bytes m) (bytes p) key) (bytes t) (bytes r) n
+right (not-slipped m p t u) = gives (redactAnswer lent (bytes m) (bytes p) 0) (bytes t) && not (gives (redactAnswer lent (bytes m) (bytes p) 0) (bytes u))
+right (redact-refused m p n l) = refuses (redactAnswer lent (bytes m) (bytes p) 0) n l
+right (appends p q t) = gives (appendAnswer lent (bytes p) (bytes q)) (bytes t)
+right (builtin-prints n t) = gives (builtinAnswer lent n) (bytes t)
+right (payload-becomes s p t) = gives (payloadAnswer lent (bytes s) (bytes p) 0) (bytes t)
+right (payload-refused s p n) = refuses (payloadAnswer lent (bytes s) (bytes p) 0) n 0
+right (rules-give k n l) = policyFault (readPolicy (times k (bytes "PID keep\n"))) n l
+right (segments-give k f w n) = eqb (faultNumber (messageFault (bytes "MSH|^~\\&" ++ times k (bytes "\rOBX" ++ times f (0x7c ∷ replicate w 0x61))))) n
+right (whole-word v t b) = sameBool (isWholeWord (bytes v) (bytes t)) b
 
 unfoldable pub allRight : List Row → Bool
 allRight [] = true
@@ -86,4 +205,60 @@ table =
     ∷ action-refused "mask ab"
     ∷ applies 0 (last 3) "ab" "ab"
     ∷ hash-is "" 0xcbf29ce484222325
+    ∷ value-is "a\\F\\b" "a|b" "a\\F\\b"
+    ∷ value-is "a\\Fb" "a\\Fb" "a\\E\\Fb"
+    ∷ value-is "\\.br\\F\\" "\\.br\\F\\" "\\E\\.br\\E\\F\\E\\"
+    ∷ value-is "\"\"" "" ""
+    ∷ whole-word "a-a" "b a-a" true
+    ∷ whole-word "a-a" "xa-a-a" false
+    ∷ message-fault "" 4
+    ∷ message-fault "\r" 4
+    ∷ message-fault "MSH|^~\\&" 0
+    ∷ message-fault "MSH|^~\\&\r\r" 5
+    ∷ message-fault "MSH|^~\\&#|" 4
+    ∷ message-fault "MSH|^~\\|" 4
+    ∷ message-fault "MSH|^~\\\"|" 4
+    ∷ message-fault "MSH|^~\\&|A\rPIDx" 5
+    ∷ message-fault "MSH|^~\\&|A\rMSH|" 5
+    ∷ message-fault "MSH|^~\\&|A\rFHS" 5
+    ∷ message-fault "MSH|^~\\&|A\rPI" 5
+    ∷ message-prints "MSH|^~\\&|A\rPID|a^b&c~d||~^&|&\rPV1\rPID|"
+    ∷ leaves-are "MSH|^~\\&\rPID" []
+    ∷ leaves-are "MSH|^~\\&\rPID|" (1 ∷ 1 ∷ 1 ∷ 1 ∷ 0 ∷ [])
+    ∷ leaves-are "MSH|^~\\&\rPID|1^2&3~4" (1 ∷ 1 ∷ 1 ∷ 1 ∷ 49 ∷ 1 ∷ 1 ∷ 1 ∷ 2 ∷ 1 ∷ 50 ∷ 1 ∷ 1 ∷ 1 ∷ 2 ∷ 2 ∷ 51 ∷ 1 ∷ 1 ∷ 2 ∷ 1 ∷ 1 ∷ 52 ∷ 1 ∷ [])
+    ∷ policy-prints "PID-3 mask\nknown-values on\n" "PID-3  mask *\n\naccept\nunrecognised  refuse\nknown-values  on\n"
+    ∷ policy-prints "" "accept\nunrecognised  refuse\nknown-values  on\n"
+    ∷ policy-prints "  PID.005\tfirst 004 # x\r\nOBX[2]-5 replace\r\nreject null\nunrecognized KEEP\nKnown-Values OFF" "PID-5     first 4\nOBX[2]-5  replace REDACTED\n\nreject        null\nunrecognised  pass\nknown-values  off\n"
+    ∷ policy-refused "PID-0 mask" 8 1
+    ∷ policy-refused "PID-5[1 mask" 8 1
+    ∷ policy-refused "\nPID-18446744073709551616 mask" 8 2
+    ∷ policy-refused "PID mask ab" 7 1
+    ∷ policy-refused "\n\n* keep" 9 3
+    ∷ policy-refused "PID-0 maskk" 7 1
+    ∷ policy-refused "accept\r\r\n" 3 0
+    ∷ appends "PID-3 mask\nreject clear" "OBX[2]-5 keep\nunrecognised pass\nknown-values off" "PID-3     mask *\nOBX[2]-5  keep\n\nreject        clear\nunrecognised  pass\nknown-values  on\n"
+    ∷ builtin-prints 0 "accept\nunrecognised  pass\nknown-values  on\n"
+    ∷ builtin-prints 1 "reject        replace REDACTED\nunrecognised  mask *\nknown-values  on\n"
+    ∷ builtin-prints 3 "MSH  keep\n\nreject        replace REDACTED\nunrecognised  refuse\nknown-values  on\n"
+    ∷ payload-becomes "{\"patient\": 1}\r\n" "unrecognised mask # all" "****************"
+    ∷ payload-becomes "a|b" "unrecognised keep" "a|b"
+    ∷ payload-becomes "" "unrecognised replace" "REDACTED"
+    ∷ payload-refused "a" "" 13
+    ∷ rules-give 128 0 0
+    ∷ rules-give 129 6 129
+    ∷ segments-give 255 1 3 0
+    ∷ segments-give 256 1 3 6
+    ∷ segments-give 89 46 3 0
+    ∷ segments-give 90 46 3 6
+    ∷ redacts "MSH|^~\\&|A\rPID|1||4412\rOBX|1|NM|KCAL||4412 kcal\r" "PID-3 mask\nknown-values on\n" 0 "MSH|^~\\&|A\rPID|1||****\rOBX|1|NM|KCAL||*********\r" "PID[1]-3[1].1.1 mask *\nOBX[1]-5[1].1.1 mask *\n" 2
+    -- counting OBX over all segments
+    ∷ not-slipped "MSH|^~\\&\rPID|1\rOBX|1\rOBX|2" "OBX[2]-1 clear" "MSH|^~\\&\rPID|1\rOBX|1\rOBX|" "MSH|^~\\&\rPID|1\rOBX|1\rOBX|2"
+    -- sweeping overlapping hits
+    ∷ not-slipped "MSH|^~\\&\rPID|a-a|xa-a-a" "PID-1 clear" "MSH|^~\\&\rPID||xa-a-a" "MSH|^~\\&\rPID||"
+    -- treating a kept leaf as unnamed under reject
+    ∷ not-slipped "MSH|^~\\&\rPID|ab|cd" "PID-1 keep\nreject clear" "MSH|^~\\&\rPID|ab|" "MSH|^~\\&\rPID||"
+    -- learning only the first value of a leaf that two rules change
+    ∷ not-slipped "MSH|^~\\&\rPID|abcd|abc x" "PID-1 first 3\nPID-1 clear" "MSH|^~\\&\rPID||" "MSH|^~\\&\rPID||abc x"
+    -- letting named marks slide to other leaves when a null collapse shortens the message
+    ∷ not-slipped "MSH|^~\\&\rPID|a^b|cde" "PID-1.2 keep\nPID-1 null\nreject mask" "MSH|^~\\&\rPID|\"\"|***" "MSH|^~\\&\rPID|\"\"|cde"
     ∷ []

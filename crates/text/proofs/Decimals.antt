@@ -10,11 +10,11 @@ use lib.ListN.{length, drop, getD, set, length-append}
 use Rattle.text.specs.declared.bytes.Class.the-variants.{Digit}
 use Rattle.text.specs.declared.decimal.Number.{Number}
 use Rattle.text.specs.declared.decimal.Number.the-variants.{At, Refused}
-use Rattle.text.specs.Text.{Text, isDigit, isIn, isEmpty, run, rest, Wrote}
+use Rattle.text.specs.Text.{Text, isDigit, isIn, isEmpty, run, rest, Wrote, all}
 use Rattle.text.specs.Number.{digits, decimal, worth, Taken, taken, refused, takeNumber, asTaken, TakenAt}
 use Rattle.text.specs.Inner.{hasRoom}
 use Rattle.text.proofs.Laws.{split, at-least, at-most, and-left, and-right, and-true, by-cond, clash}
-use Rattle.text.proofs.Runs.{run-yes, run-no, run-none, rest-yes, rest-no, rest-none, all, stop, run-all, rest-all, all-append, all-run, run-rest-length}
+use Rattle.text.proofs.Runs.{run-yes, run-no, run-none, rest-yes, rest-no, rest-none, stop, run-all, rest-all, all-append, all-run, run-rest-length}
 use Rattle.text.proofs.Writes.{wrote-byte, wrote-length, wrote-then}
 
 -- ---- printing

@@ -1,6 +1,6 @@
 -- Laws of runs. Assumes nothing.
 use mathlib.Core.Path.{_≡_, refl, sym, ap, _∙_}
-use mathlib.Core.Bool.{Bool, true, false, cond, not, _&&_}
+use mathlib.Core.Bool.{Bool, true, false, cond, not}
 use mathlib.Core.List.{[], _∷_, _++_, append-nil, append-assoc}
 use Prim.Native.Nat.{ℕ, suc, _+_, _-_, _≤_, _<_}
 use native.Mathlib.Nat.{sub-self, add-sub-cancel-left}
@@ -11,7 +11,7 @@ use lib.Dec.{eqb}
 use lib.ListN.{length, take, drop, getD, length-append, length-take, length-drop, drop-of-length-le}
 use lib.Seq.{drop-cons, take-all, take-suc, take-add, drop-at, drop-drop, getD-drop}
 use Rattle.text.specs.declared.bytes.Class.the-variants.{AllBut}
-use Rattle.text.specs.Text.{Text, isIn, find, run, rest, part, RunEnd}
+use Rattle.text.specs.Text.{Text, isIn, find, run, rest, part, RunEnd, all}
 use Rattle.text.proofs.Laws.{and-left, and-right, and-true, by-cond}
 
 -- the next byte of what is left
@@ -100,11 +100,6 @@ find-end b {s} {r} g =
     sym l ∙ ap length (g .run-is) ∙ sym (find-run b s)
 
 -- ---- a run that is known
-
--- p holds of every byte of s
-unfoldable pub all : (ℕ → Bool) → Text → Bool
-all p [] = true
-all p (x ∷ s) = p x && all p s
 
 -- s is empty, or begins with a byte of which p does not hold
 unfoldable pub stop : (ℕ → Bool) → Text → Bool

@@ -85,6 +85,15 @@ unfoldable pub rest : (ℕ → Bool) → Text → Text
 rest p [] = []
 rest p (x ∷ s) = cond (p x) (rest p s) (x ∷ s)
 
+-- p holds of every byte
+unfoldable pub all : (ℕ → Bool) → Text → Bool
+all p [] = true
+all p (x ∷ s) = p x && all p s
+
+-- v stands at the front of s
+unfoldable pub begins : Text → Text → Bool
+begins v s = same v (take (length v) s)
+
 -- n bytes of s from index i on
 unfoldable pub part : Text → ℕ → ℕ → Text
 part s i n = take n (drop i s)

@@ -1,0 +1,95 @@
+-- What holds of every message that was read: its header, and where its leaves stand. Assumes nothing.
+use mathlib.Core.Path.{_≡_, refl, ap}
+use mathlib.Core.Bool.{Bool, true, false}
+use mathlib.Core.List.{List, [], _∷_, _++_}
+use mathlib.Core.Option.{none, some}
+use Prim.Native.Nat.{_≤_}
+use native.Mathlib.Omega.{arith}
+use borrow.Author.Tests.{ne-eqb}
+use lib.Dec.{eqb}
+use lib.ListN.{length, take, drop, length-append}
+use Rattle.text.specs.Text.{Text, bytes}
+use Rattle.text.proofs.Laws.{by-cond}
+use Rattle.er7.specs.declared.message.Place.{Place}
+use Rattle.er7.specs.declared.separators.Separators.{Separators}
+use Rattle.message_model.specs.Message.{Leaf, leaf, Label, Segment, segment, separatorsOf, firstOf, segmentLines, withoutLastCR, endsLeaf, next, leaves, leavesBehind, atField, leavesOf, count, segments, messageOf, messageFault}
+use Rattle.message_model.proofs.Places.{Step, a-field, nextStep, Chain, stepOf, next-step}
+use Rattle.message_model.proofs.Faultless.{header-line, faultless, separators-are, segments-are}
+
+-- ---- the header
+
+-- no segment is the header
+abbrev pub NoHeader : List Segment → Type 0
+NoHeader [] = Unit {0}
+NoHeader (segment g xs ∷ ss) = (g .header ≡ false) × NoHeader ss
+
+-- the header's label
+abbrev pub headerLabel : Label
+headerLabel = record { name = bytes "MSH"; occurrence = 1; header = true }
+
+-- the first segment is the header, with MSH-1 and MSH-2 in front, and no other is
+pub record HeaderFirst (s : Separators) (ss : List Segment) : Type 0 where
+  pub rest : List Leaf
+  pub others : List Segment
+  pub are : ss ≡ segment headerLabel
+      (leaf (atField 1) false (some (s .field ∷ []))
+      ∷ leaf (atField 2) false (some (s .component ∷ s .repetition ∷ s .escape ∷ s .subcomponent ∷ []))
+      ∷ rest)
+      ∷ others
+  pub no-other : NoHeader others
+
+no-other-header : (s : Separators) (seen ls : List Text) → 1 ≤ length seen → NoHeader (segments s seen ls)
+unfolding segments
+no-other-header s seen [] h = tt
+no-other-header s seen (l ∷ ls) h =
+    (ne-eqb (length seen) 0 (λ e. omega arith), no-other-header s (seen ++ take 3 l ∷ []) ls (simp length-append (omega arith)))
+
+header-first : (s : Separators) (l : Text) (ls : List Text) → take 3 l ≡ bytes "MSH" → HeaderFirst s (segments s [] (l ∷ ls))
+unfolding segments count leavesOf
+header-first s l ls e = record {
+  rest = leavesBehind s (atField 2) (drop 8 l);
+  others = segments s (take 3 l ∷ []) ls;
+  are = ap (λ (n : Text). segment (record { name = n; occurrence = 1; header = true }) (leavesOf s true l) ∷ segments s (take 3 l ∷ []) ls) e;
+  no-other = no-other-header s (take 3 l ∷ []) ls (omega arith);
+}
+
+pub leaves-of-header : (t : Text) → messageFault t ≡ none → HeaderFirst (messageOf t .separators) (messageOf t .segments)
+leaves-of-header t e =
+    let f = faultless t e in
+    rw (separators-are t f, segments-are t f) (header-first _ (f .line) (f .others) (header-line (f .line) (f .header) .name))
+
+-- ---- where the leaves stand
+
+-- the leaves of each segment stand next to each other, the first next to where a name stands
+abbrev pub Chained : List Segment → Type 0
+Chained [] = Unit {0}
+Chained (segment g xs ∷ ss) = Chain (atField 0) xs × Chained ss
+
+module _ (s : Separators) where
+  leaves-chain : (t w : Text) (k : Step) (p q : Place) → q ≡ nextStep k p → Chain p (leaves s q w t)
+  unfolding leaves
+  leaves-chain [] w k p q e = ((k, e), tt)
+  leaves-chain (x ∷ t) w k p q e =
+      by-cond (Chain p) (endsLeaf s x) _ _
+      (λ _. ((k, e), leaves-chain t [] (stepOf s x) q (next s x q) (next-step s x q)))
+      (λ _. leaves-chain t (w ++ x ∷ []) k p q e)
+
+  behind-chains : (u : Text) (p : Place) → Chain p (leavesBehind s p u)
+  unfolding leavesBehind
+  behind-chains [] p = tt
+  behind-chains (x ∷ t) p = leaves-chain t [] (stepOf s x) p (next s x p) (next-step s x p)
+
+  line-chains : (b : Bool) (l : Text) → Chain (atField 0) (leavesOf s b l)
+  unfolding leavesOf
+  line-chains true l = ((a-field, unfold atField in refl), ((a-field, unfold atField in refl), behind-chains (drop 8 l) (atField 2)))
+  line-chains false l = behind-chains (drop 3 l) (atField 0)
+
+  segments-chain : (seen ls : List Text) → Chained (segments s seen ls)
+  unfolding segments
+  segments-chain seen [] = tt
+  segments-chain seen (l ∷ ls) = (line-chains (eqb (length seen) 0) l, segments-chain (seen ++ take 3 l ∷ []) ls)
+
+-- of every message, also of one that is refused
+pub message-chains : (t : Text) → Chained (messageOf t .segments)
+unfolding messageOf
+message-chains t = segments-chain (separatorsOf (firstOf (segmentLines [] (withoutLastCR t)))) [] (segmentLines [] (withoutLastCR t))

@@ -1,0 +1,9 @@
+pub mod Texts
+pub mod Bytes
+pub mod Columns
+pub mod Sayings
+pub mod PrintedPolicies
+pub mod ReadActions
+pub mod ReadPaths
+pub mod ReadPolicies
+pub mod PolicyReadBack

@@ -1,0 +1,250 @@
+-- policy.rs: policies, how they are read, merged and printed. Assumes nothing: these are definitions.
+use mathlib.Core.Bool.{Bool, true, false, not, cond, _&&_, _||_}
+use mathlib.Core.List.{List, [], _∷_, _++_}
+use mathlib.Core.Option.{Option, none, some}
+use Prim.Native.Nat.{ℕ, suc, _-_, max}
+use lib.ListN.{length, replicate}
+use lib.Dec.{eqb, ltb}
+use Rattle.text.specs.Text.{Text, bytes, isBlank, notBlank, isWord, isEmpty, run, rest}
+use Rattle.er7.specs.Path.{Path, readPath, printPath}
+use Rattle.er7_redact.specs.Action.{Action, replace, isKeep, isNullAction, readAction, printAction}
+use Rattle.er7_redact.specs.Policy.{Rule, Posture, accept, reject}
+use Rattle.refusal.specs.declared.Refusal.{Refusal}
+use Rattle.refusal.specs.declared.Refusal.the-variants.{TooLong, ForeignByte, TooMany, BadAction, BadPath, BadDirective}
+use Rattle.refusal.specs.Refusal.{tooLong, isPlain}
+
+-- what a payload gets: it passes, gets an action, or is refused
+pub data Unrecognised : Type 0 where
+  pass refuse : Unrecognised
+  apply : Action → Unrecognised
+
+pub record Policy : Type 0 where
+  pub rules : List Rule
+  pub posture : Posture
+  pub unrecognised : Unrecognised
+  pub sweep : Bool
+
+-- "Start: accept, refuse, sweep on"
+unfoldable pub start : Policy
+start = record { rules = []; posture = accept; unrecognised = refuse; sweep = true }
+
+-- "`reject keep` is accept"
+unfoldable pub rejecting : Action → Posture
+rejecting a = cond (isKeep a) accept (reject a)
+
+-- "unrecognised keep or null is pass"
+unfoldable pub applying : Action → Unrecognised
+applying a = cond (isKeep a || isNullAction a) pass (apply a)
+
+-- ---- what a line says
+
+pub data Saying : Type 0 where
+  nothing : Saying
+  rule : Rule → Saying
+  posture : Posture → Saying
+  unrecognised : Unrecognised → Saying
+  sweep : Bool → Saying
+  wrong : Refusal → Saying
+
+-- "The first word picks a directive (`accept`, `reject`, `unrecognised` or `unrecognized`, `known-values`, case ignored), else
+-- a path"; "first word `*`" is none of them
+pub data Head : Type 0 where
+  accept-head reject-head unrecognised-head known-values-head star-head path-head : Head
+
+unfoldable pub head : Text → Head
+head w =
+    cond (isWord w (bytes "accept")) accept-head
+    (cond (isWord w (bytes "reject")) reject-head
+    (cond (isWord w (bytes "unrecognised") || isWord w (bytes "unrecognized")) unrecognised-head
+    (cond (isWord w (bytes "known-values")) known-values-head
+    (cond (isWord w (bytes "*")) star-head path-head))))
+
+-- "missing or unreadable, in a rule or directive"
+unfoldable pub withAction : Option Action → (Action → Saying) → Saying
+withAction none f = wrong BadAction
+withAction (some a) f = f a
+
+-- "argument to accept"
+unfoldable pub sayAccept : Text → Saying
+sayAccept s = cond (isEmpty s) (posture accept) (wrong BadDirective)
+
+-- a bare `reject` writes REDACTED, as a bare `replace` does
+unfoldable pub sayReject : Text → Saying
+sayReject s =
+    cond (isEmpty s) (posture (reject (replace (bytes "REDACTED"))))
+    (withAction (readAction s) λ a. posture (rejecting a))
+
+-- "unrecognised without one"
+unfoldable pub sayUnrecognised : Text → Saying
+sayUnrecognised s =
+    cond (isEmpty s) (wrong BadDirective)
+    (cond (isWord s (bytes "refuse")) (unrecognised refuse)
+    (cond (isWord s (bytes "pass")) (unrecognised pass)
+    (withAction (readAction s) λ a. unrecognised (applying a))))
+
+-- "known-values neither on nor off"
+unfoldable pub sayKnownValues : Text → Saying
+sayKnownValues s = cond (isWord s (bytes "on")) (sweep true) (cond (isWord s (bytes "off")) (sweep false) (wrong BadDirective))
+
+-- "The action is judged before the path"
+unfoldable pub withPath : Action → Option Path → Saying
+withPath a none = wrong BadPath
+withPath a (some p) = rule (record { path = p; action = a })
+
+unfoldable pub sayRule : Text → Text → Saying
+sayRule w s = withAction (readAction s) λ a. withPath a (readPath w)
+
+-- a line's first word and the rest
+unfoldable pub says : Head → Text → Text → Saying
+says accept-head w s = sayAccept s
+says reject-head w s = sayReject s
+says unrecognised-head w s = sayUnrecognised s
+says known-values-head w s = sayKnownValues s
+says star-head w s = wrong BadDirective
+says path-head w s = sayRule w s
+
+-- "first word over 64, rest over 80"
+unfoldable pub judged : Text → Text → Saying
+judged w s = cond (ltb 64 (length w) || ltb 80 (length s)) (wrong TooMany) (says (head w) w s)
+
+-- "word and rest are each taken without comment, outer blanks and tabs"
+unfoldable pub spoken : Text → Saying
+spoken [] = nothing
+spoken (x ∷ s) = judged (run notBlank (x ∷ s)) (rest isBlank (rest notBlank (x ∷ s)))
+
+unfoldable pub prepend : ℕ → Text → Text
+prepend x [] = cond (isBlank x) [] (x ∷ [])
+prepend x (y ∷ t) = x ∷ y ∷ t
+
+-- without the blanks and tabs at the end, and at both ends
+unfoldable pub trimEnd : Text → Text
+trimEnd [] = []
+trimEnd (x ∷ s) = prepend x (trimEnd s)
+
+unfoldable pub trim : Text → Text
+trim s = trimEnd (rest isBlank s)
+
+unfoldable pub notCR : ℕ → Bool
+notCR x = not (eqb x 0x0d)
+
+unfoldable pub notHash : ℕ → Bool
+notHash x = not (eqb x 0x23)
+
+-- "`#` starts a comment"; "line over 255 bytes": "A line's length counts its comment and not its end"
+unfoldable pub saysLine : Text → Saying
+saysLine l = cond (ltb 255 (length (run notCR l))) (wrong TooMany) (spoken (trim (run notHash (run notCR l))))
+
+-- ---- a whole policy
+
+-- "Lines end in LF or CR LF"; behind the last LF there is no line unless bytes follow
+unfoldable pub push : ℕ → List Text → List Text
+push x [] = (x ∷ []) ∷ []
+push x (l ∷ ls) = (x ∷ l) ∷ ls
+
+unfoldable pub policyLines : Text → List Text
+policyLines [] = []
+policyLines (x ∷ s) = let more = policyLines s in cond (eqb x 0x0a) ([] ∷ more) (push x more)
+
+-- a policy, or a refusal with its line
+pub data PolicyRead : Type 0 where
+  read : Policy → PolicyRead
+  refused : Refusal → ℕ → PolicyRead
+
+unfoldable pub withRules : Policy → List Rule → Policy
+withRules p rs = record { rules = rs; posture = p .posture; unrecognised = p .unrecognised; sweep = p .sweep }
+
+-- what line n says changes the policy, and reading goes on with it; "A later directive replaces an earlier one"; "128 rules pass"
+unfoldable pub told : ℕ → Policy → Saying → (Policy → PolicyRead) → PolicyRead
+told n p nothing f = f p
+told n p (rule r) f = cond (ltb (length (p .rules)) 128) (f (withRules p (p .rules ++ (r ∷ [])))) (refused TooMany n)
+told n p (posture x) f = f (record { rules = p .rules; posture = x; unrecognised = p .unrecognised; sweep = p .sweep })
+told n p (unrecognised x) f = f (record { rules = p .rules; posture = p .posture; unrecognised = x; sweep = p .sweep })
+told n p (sweep x) f = f (record { rules = p .rules; posture = p .posture; unrecognised = p .unrecognised; sweep = x })
+told n p (wrong e) f = refused e n
+
+-- "lines downward", from number n on
+unfoldable pub readLines : ℕ → Policy → List Text → PolicyRead
+readLines n p [] = read p
+readLines n p (l ∷ ls) = told n p (saysLine l) λ q. readLines (suc n) q ls
+
+-- "0x09, 0x20 to 0x7E, and: .. LF, or CR directly before LF, in a policy"
+unfoldable pub beginsInLF : Text → Bool
+beginsInLF [] = false
+beginsInLF (x ∷ s) = eqb x 0x0a
+
+unfoldable pub isPolicyText : Text → Bool
+isPolicyText [] = true
+isPolicyText (x ∷ s) = (isPlain x || eqb x 0x0a || eqb x 0x0d && beginsInLF s) && isPolicyText s
+
+-- "2, 3, then lines downward"
+unfoldable pub readPolicy : Text → PolicyRead
+readPolicy s = cond (tooLong s) (refused TooLong 0) (cond (isPolicyText s) (readLines 1 start (policyLines s)) (refused ForeignByte 0))
+
+-- ---- "`append` takes the second posture if at least as strict, the second unrecognised, and the sweep if either has it"
+
+unfoldable pub stricter : Posture → Posture → Posture
+stricter p (reject a) = reject a
+stricter p accept = p
+
+unfoldable pub merged : Policy → Policy → Policy
+merged p q =
+    record {
+      rules = p .rules ++ q .rules;
+      posture = stricter (p .posture) (q .posture);
+      unrecognised = q .unrecognised;
+      sweep = p .sweep || q .sweep;
+    }
+
+-- ---- "Printing pads as `Display` does; `DEFAULT_WIDTH` is 12"
+
+unfoldable pub width : List Rule → ℕ
+width [] = 0
+width (r ∷ rs) = max (length (printPath (r .path))) (width rs)
+
+-- blanks that fill a column of n bytes behind w, and two more
+unfoldable pub gap : ℕ → Text → Text
+gap n w = replicate (suc (suc (n - length w))) 0x20
+
+unfoldable pub column : ℕ → Text → Text → Text
+column n w s = w ++ (gap n w ++ s)
+
+unfoldable pub ruleLine : ℕ → Rule → Text
+ruleLine n r = column n (printPath (r .path)) (printAction (r .action))
+
+unfoldable pub ruleLines : ℕ → List Rule → List Text
+ruleLines n [] = []
+ruleLines n (r ∷ rs) = ruleLine n r ∷ ruleLines n rs
+
+-- the rules and, if there are any, an empty line
+unfoldable pub ruleBlock : List Rule → List Text
+ruleBlock [] = []
+ruleBlock (r ∷ rs) = ruleLines (width (r ∷ rs)) (r ∷ rs) ++ ([] ∷ [])
+
+unfoldable pub postureLine : Posture → Text
+postureLine accept = bytes "accept"
+postureLine (reject a) = column 12 (bytes "reject") (printAction a)
+
+unfoldable pub unrecognisedText : Unrecognised → Text
+unrecognisedText pass = bytes "pass"
+unrecognisedText refuse = bytes "refuse"
+unrecognisedText (apply a) = printAction a
+
+unfoldable pub sweepText : Bool → Text
+sweepText true = bytes "on"
+sweepText false = bytes "off"
+
+-- the three default lines always
+unfoldable pub defaultLines : Policy → List Text
+defaultLines p =
+    postureLine (p .posture)
+    ∷ column 12 (bytes "unrecognised") (unrecognisedText (p .unrecognised))
+    ∷ column 12 (bytes "known-values") (sweepText (p .sweep))
+    ∷ []
+
+-- each line with its LF
+unfoldable pub joined : List Text → Text
+joined [] = []
+joined (l ∷ ls) = l ++ (0x0a ∷ joined ls)
+
+unfoldable pub printPolicy : Policy → Text
+printPolicy p = joined (ruleBlock (p .rules) ++ defaultLines p)

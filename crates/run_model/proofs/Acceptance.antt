@@ -1,0 +1,173 @@
+-- Each entry's number is 0 exactly when no row of the table applies, and a refusal's row applies. Assumes nothing.
+use mathlib.Core.Path.{_≡_, refl, sym, _∙_}
+use mathlib.Core.Bool.{Bool, true, false, not, cond, _&&_, _||_}
+use mathlib.Core.Option.{Option, none, some}
+use Prim.Native.Nat.{ℕ, _+_}
+use lib.Dec.{ltb}
+use lib.ListN.{length}
+use borrow.Author.Tests.{ltb-false}
+use Rattle.text.specs.Text.{Text, all}
+use Rattle.text.proofs.Laws.{clash}
+use Rattle.refusal.specs.declared.Refusal.{Refusal}
+use Rattle.refusal.specs.declared.Refusal.the-variants.{ShortBuffer, TooLong, ForeignByte, TooMany, Withheld, NoSuchBuiltin}
+use Rattle.refusal.specs.Refusal.{number, tooLong}
+use Rattle.message_model.specs.Message.{messageOf, messageFault}
+use Rattle.policy_model.specs.Policy as Q
+use Rattle.policy_model.specs.Policy.{Policy, PolicyRead, read, readPolicy, Unrecognised, pass, refuse, apply}
+use Rattle.policy_model.specs.Builtin.{builtinText}
+use Rattle.policy_model.proofs.PolicyReadBack.{builtin-reads}
+use Rattle.run_model.specs.Redact.{redact}
+use Rattle.run_model.specs.Entries.{Answer, done, refused, Lent, outcome, isShort, withBuffers, withPolicy, withoutFault, reported, redactAnswer, printed, printAnswer, mergedAnswer, appendAnswer, builtinAnswer, isPayloadByte, payloadFault, unrecognised, payloadAnswer, redactOutcome, printOutcome, appendOutcome, builtinOutcome, payloadOutcome}
+use Rattle.run_model.specs.Table.{is, bufferRow, policyRow, withPolicyRow, messageRow, runRow, rowOfRedact, rowOfPrint, rowOfAppend, rowOfBuiltin, refuses, rowOfPayload}
+use Rattle.run_model.proofs.Accepted.{number-positive}
+use Rattle.run_model.proofs.Judged.{Judges, or-false, or-left, or-right, and-none, policyRefusal, policy-judged, message-judged}
+use Rattle.run_model.proofs.Booked.{refusalIn, run-judged}
+
+-- ---- one part after another
+
+-- the first part is judged without refusal, then the second; or the first has one
+both-judged : (f g : Refusal → Bool) (o : Option Refusal) → Judges f none → Judges g o → Judges (λ e. f e || g e) o
+both-judged f g none h k = λ e. or-false (h e) (k e)
+both-judged f g (some e) h k = or-right (f e) k
+
+first-judged : (f g : Refusal → Bool) (e : Refusal) → Judges f (some e) → Judges (λ x. f x || g x) (some e)
+first-judged f g e h = or-left (g e) h
+
+buffers-judged : (b : Lent) (g : Refusal → Bool) (a : Answer) → Judges g (refusalIn a) → Judges (λ e. bufferRow b e || g e) (refusalIn (withBuffers b a))
+unfolding withBuffers bufferRow
+buffers-judged b g a h = go (isShort b) refl
+  where
+    go : (c : Bool) → isShort b ≡ c → Judges (λ e. is e ShortBuffer && isShort b || g e) (refusalIn (cond c (refused ShortBuffer 0) a))
+    go true e = unfold refusalIn is number in rw e
+    go false e = both-judged (λ x. is x ShortBuffer && isShort b) g (refusalIn a) (λ x. and-none (is x ShortBuffer) e) h
+
+-- a policy and what is done with it: g says what rows apply then
+policy-then : (s : Text) (g : PolicyRead → Refusal → Bool) (f : Policy → Answer) → ((P : Policy) → readPolicy s ≡ read P → Judges (g (read P)) (refusalIn (f P)))
+    → Judges (λ e. policyRow s e || g (readPolicy s) e) (refusalIn (withPolicy (readPolicy s) f))
+unfolding policyRefusal withPolicy refusalIn
+policy-then s g f h = go (readPolicy s) refl (policy-judged s)
+  where
+    go : (r : PolicyRead) → readPolicy s ≡ r → Judges (policyRow s) (policyRefusal r) → Judges (λ e. policyRow s e || g r e) (refusalIn (withPolicy r f))
+    go (read P) q k = both-judged (policyRow s) (g (read P)) (refusalIn (f P)) k (h P q)
+    go (Q.refused e n) q k = or-left (g (Q.refused e n) e) k
+
+fault-then : (f g : Refusal → Bool) (o : Option Refusal) (a : Answer) → Judges f o → Judges g (refusalIn a)
+    → Judges (λ e. f e || g e) (refusalIn (withoutFault o a))
+unfolding withoutFault refusalIn
+fault-then f g none a h k = both-judged f g (refusalIn a) h k
+fault-then f g (some e) a h k = or-left (g e) h
+
+-- ---- the five entries
+
+redact-judged : (b : Lent) (m p : Text) (key : ℕ) → Judges (rowOfRedact b m p key) (refusalIn (redactAnswer b m p key))
+unfolding rowOfRedact redactAnswer withPolicyRow
+redact-judged b m p key =
+    buffers-judged b _ _
+    (policy-then p (λ r e. messageRow m e || withPolicyRow r λ P. runRow b key P (messageOf m) e)
+    (λ P. withoutFault (messageFault m) (reported b (redact key P (messageOf m))))
+    (λ P q. fault-then (messageRow m) (runRow b key P (messageOf m)) (messageFault m) (reported b (redact key P (messageOf m))) (message-judged m)
+    (run-judged b key P (messageOf m))))
+
+print-judged : (b : Lent) (p : Text) → Judges (rowOfPrint b p) (refusalIn (printAnswer b p))
+unfolding rowOfPrint printAnswer
+print-judged b p = buffers-judged b (policyRow p) _ (go (readPolicy p) (policy-judged p))
+  where
+    go : (r : PolicyRead) → Judges (policyRow p) (policyRefusal r) → Judges (policyRow p) (refusalIn (withPolicy r printed))
+    go (read P) k = unfold policyRefusal withPolicy printed refusalIn in k
+    go (Q.refused e n) k = unfold policyRefusal withPolicy refusalIn in k
+
+-- the merged rules are too many, or not
+merged-judged : (P R : Policy) → Judges (λ e. is e TooMany && ltb 128 (length (P .rules) + length (R .rules))) (refusalIn (mergedAnswer P R))
+unfolding mergedAnswer printed
+merged-judged P R = go (ltb 128 (length (P .rules) + length (R .rules))) refl
+  where
+    go : (c : Bool) → ltb 128 (length (P .rules) + length (R .rules)) ≡ c
+        → Judges (λ e. is e TooMany && ltb 128 (length (P .rules) + length (R .rules))) (refusalIn (cond c (refused TooMany 0) (printed (Q.merged P R))))
+    go true e = unfold refusalIn is number in e
+    go false e = unfold refusalIn printed in λ x. and-none (is x TooMany) e
+
+append-judged : (b : Lent) (p q : Text) → Judges (rowOfAppend b p q) (refusalIn (appendAnswer b p q))
+unfolding rowOfAppend appendAnswer withPolicyRow
+append-judged b p q =
+    buffers-judged b _ _
+    (policy-then p
+    (λ r e. policyRow q e || withPolicyRow r λ P. withPolicyRow (readPolicy q) λ R. is e TooMany && ltb 128 (length (P .rules) + length (R .rules)))
+    (λ P. withPolicy (readPolicy q) λ R. mergedAnswer P R)
+    (λ P _. policy-then q (λ r e. withPolicyRow r λ R. is e TooMany && ltb 128 (length (P .rules) + length (R .rules))) (λ R. mergedAnswer P R)
+    (λ R _. merged-judged P R)))
+
+-- a built-in always reads
+builtin-judged : (b : Lent) (n : ℕ) → Judges (rowOfBuiltin b n) (refusalIn (builtinAnswer b n))
+unfolding rowOfBuiltin builtinAnswer
+builtin-judged b n = buffers-judged b (λ e. is e NoSuchBuiltin && ltb 3 n) _ (go (ltb 3 n) refl)
+  where
+    go : (c : Bool) → ltb 3 n ≡ c
+        → Judges (λ e. is e NoSuchBuiltin && ltb 3 n) (refusalIn (cond c (refused NoSuchBuiltin 0) (withPolicy (readPolicy (builtinText n)) printed)))
+    go true e = unfold refusalIn is number in e
+    go false e = unfold withPolicy printed refusalIn in rw (builtin-reads n (ltb-false 3 n e) .1) (λ x. and-none (is x NoSuchBuiltin) e)
+
+payload-fault-judged : (t : Text) → Judges (λ e. is e TooLong && tooLong t || is e ForeignByte && not (all isPayloadByte t)) (payloadFault t)
+unfolding payloadFault
+payload-fault-judged t = go (tooLong t) (all isPayloadByte t) refl refl
+  where
+    go : (a c : Bool) → tooLong t ≡ a → all isPayloadByte t ≡ c
+        → Judges (λ e. is e TooLong && tooLong t || is e ForeignByte && not (all isPayloadByte t)) (cond a (some TooLong) (cond (not c) (some ForeignByte) none))
+    go true c e f = unfold is number in rw e
+    go false false e f = unfold is number in rw f
+    go false true e f = λ x. or-false (and-none (is x TooLong) e) (and-none (is x ForeignByte) (rw f))
+
+withheld-judged : (key : ℕ) (u : Unrecognised) (t : Text) → Judges (λ e. is e Withheld && refuses u) (refusalIn (unrecognised key u t))
+unfolding unrecognised refusalIn refuses
+withheld-judged key pass t = λ x. and-none (is x Withheld) refl
+withheld-judged key refuse t = unfold is number in refl
+withheld-judged key (apply a) t = λ x. and-none (is x Withheld) refl
+
+payload-judged : (b : Lent) (t p : Text) (key : ℕ) → Judges (rowOfPayload b t p) (refusalIn (payloadAnswer b t p key))
+unfolding rowOfPayload payloadAnswer withPolicyRow
+payload-judged b t p key =
+    buffers-judged b _ _
+    (policy-then p
+    (λ r e. (is e TooLong && tooLong t || is e ForeignByte && not (all isPayloadByte t)) || withPolicyRow r λ P. is e Withheld && refuses (P .unrecognised))
+    (λ P. withoutFault (payloadFault t) (unrecognised key (P .unrecognised) t))
+    (λ P _. fault-then (λ e. is e TooLong && tooLong t || is e ForeignByte && not (all isPayloadByte t)) (λ e. is e Withheld && refuses (P .unrecognised))
+    (payloadFault t) (unrecognised key (P .unrecognised) t) (payload-fault-judged t) (withheld-judged key (P .unrecognised) t)))
+
+-- ---- "Success is 0, exactly when no row applies"
+
+pub record Exactly (row : Refusal → Bool) (n : ℕ) : Type 0 where
+  -- an input to which no row applies gets 0
+  pub accepts : ((e : Refusal) → row e ≡ false) → n ≡ 0
+  -- to an input that gets 0 no row applies
+  pub no-row : n ≡ 0 → (e : Refusal) → row e ≡ false
+  -- the row of a refusal applies
+  pub row-applies : (n ≡ 0 → ⊥) → (e : Refusal) × (n ≡ number e) × (row e ≡ true)
+
+exactly : (row : Refusal → Bool) (b : Lent) (a : Answer) → Judges row (refusalIn a) → Exactly row (outcome b a .number)
+unfolding refusalIn outcome
+exactly row b (done t ρs) h = record { accepts = λ k. refl; no-row = λ k. h; row-applies = λ k. absurd (k refl) }
+exactly row b (refused e n) h =
+    record {
+      accepts = λ k. clash (sym h ∙ k e);
+      no-row = λ k. absurd (number-positive e k);
+      row-applies = λ k. (e, refl, h);
+    }
+
+pub redact-exactly : (b : Lent) (message policy : Text) (key : ℕ) → Exactly (rowOfRedact b message policy key) (redactOutcome b message policy key .number)
+unfolding redactOutcome
+redact-exactly b m p key = exactly _ b (redactAnswer b m p key) (redact-judged b m p key)
+
+pub print-exactly : (b : Lent) (policy : Text) → Exactly (rowOfPrint b policy) (printOutcome b policy .number)
+unfolding printOutcome
+print-exactly b p = exactly _ b (printAnswer b p) (print-judged b p)
+
+pub append-exactly : (b : Lent) (first second : Text) → Exactly (rowOfAppend b first second) (appendOutcome b first second .number)
+unfolding appendOutcome
+append-exactly b p q = exactly _ b (appendAnswer b p q) (append-judged b p q)
+
+pub builtin-exactly : (b : Lent) (n : ℕ) → Exactly (rowOfBuiltin b n) (builtinOutcome b n .number)
+unfolding builtinOutcome
+builtin-exactly b n = exactly _ b (builtinAnswer b n) (builtin-judged b n)
+
+pub payload-exactly : (b : Lent) (payload policy : Text) (key : ℕ) → Exactly (rowOfPayload b payload policy) (payloadOutcome b payload policy key .number)
+unfolding payloadOutcome
+payload-exactly b t p key = exactly _ b (payloadAnswer b t p key) (payload-judged b t p key)

@@ -1,0 +1,82 @@
+-- What a call of redact has done if its number is 0. Assumes nothing.
+use mathlib.Core.Path.{_≡_, refl, _∙_}
+use mathlib.Core.Bool.{Bool, true, false, cond}
+use mathlib.Core.List.{List}
+use mathlib.Core.Option.{Option, none, some}
+use Prim.Native.Nat.{ℕ}
+use native.Mathlib.Omega.{arith}
+use lib.Dec.{ltb}
+use lib.ListN.{length}
+use Rattle.text.specs.Text.{Text}
+use Rattle.refusal.specs.declared.Refusal.{Refusal}
+use Rattle.refusal.specs.declared.Refusal.the-variants.{ShortBuffer, TooLong, ForeignByte, BadHeader, BadSegment, TooMany, BadAction, BadPath, BadDirective, TooMuchLearnt, MessageTooLong, ReportTooLong, Withheld, NoSuchBuiltin}
+use Rattle.refusal.specs.Refusal.{number}
+use Rattle.message_model.specs.Message.{messageOf, messageFault}
+use Rattle.policy_model.specs.Policy.{Policy, read, readPolicy}
+use Rattle.run_model.specs.Redact as R
+use Rattle.run_model.specs.Redact.{Row, Redacted, redact, printRows}
+use Rattle.run_model.specs.Entries.{Answer, done, refused, Lent, outcome, isShort, withBuffers, withPolicy, withoutFault, reported, redactAnswer, redactOutcome}
+
+-- no refusal has the number 0
+pub number-positive : (e : Refusal) → number e ≡ 0 → ⊥
+unfolding number
+number-positive ShortBuffer h = omega arith
+number-positive TooLong h = omega arith
+number-positive ForeignByte h = omega arith
+number-positive BadHeader h = omega arith
+number-positive BadSegment h = omega arith
+number-positive TooMany h = omega arith
+number-positive BadAction h = omega arith
+number-positive BadPath h = omega arith
+number-positive BadDirective h = omega arith
+number-positive TooMuchLearnt h = omega arith
+number-positive MessageTooLong h = omega arith
+number-positive ReportTooLong h = omega arith
+number-positive Withheld h = omega arith
+number-positive NoSuchBuiltin h = omega arith
+
+abbrev pub Succeeds : Lent → Answer → Type 0
+Succeeds b a = outcome b a .number ≡ 0
+
+refused-fails : {X : Type 0} (b : Lent) (e : Refusal) (n : ℕ) → Succeeds b (refused e n) → X
+unfolding outcome
+refused-fails b e n h = absurd (number-positive e h)
+
+-- the message has no fault, and the run gave a text and rows that the report has room for
+pub record Done (b : Lent) (message policy : Text) (key : ℕ) (P : Policy) : Type 0 where
+  pub no-fault : messageFault message ≡ none
+  pub text : Text
+  pub rows : List Row
+  pub run : redact key P (messageOf message) ≡ R.done text rows
+  pub answer : redactAnswer b message policy key ≡ done text rows
+
+module _ (b : Lent) (message policy : Text) (key : ℕ) (P : Policy) where
+  abbrev rest : Answer
+  rest = withoutFault (messageFault message) (reported b (redact key P (messageOf message)))
+
+  reported-done : (d : Redacted) → Succeeds b (reported b d) → (t : Text) × (ρs : List Row) × (d ≡ R.done t ρs) × (reported b d ≡ done t ρs)
+  unfolding reported
+  reported-done (R.done t ρs) h = go (ltb (b .report) (length (printRows ρs))) h
+    where
+      go : (c : Bool) → Succeeds b (cond c (refused ReportTooLong 0) (done t ρs))
+          → (u : Text) × (σs : List Row) × (R.done t ρs ≡ R.done u σs) × (cond c (refused ReportTooLong 0) (done t ρs) ≡ done u σs)
+      go true k = refused-fails b ReportTooLong 0 k
+      go false k = (t, ρs, refl, refl)
+  reported-done (R.refused e) h = refused-fails b e 0 h
+
+  from-fault : (o : Option Refusal) → messageFault message ≡ o → Succeeds b (withoutFault o (reported b (redact key P (messageOf message))))
+      → redactAnswer b message policy key ≡ withoutFault o (reported b (redact key P (messageOf message))) → Done b message policy key P
+  unfolding withoutFault
+  from-fault none e h a =
+      let d = reported-done (redact key P (messageOf message)) h in
+      record { no-fault = e; text = d .0; rows = d .1; run = d .2; answer = a ∙ d .3 }
+  from-fault (some x) e h a = refused-fails b x 0 h
+
+  from-buffers : (c : Bool) → isShort b ≡ c → readPolicy policy ≡ read P → Succeeds b (cond c (refused ShortBuffer 0) rest) → Done b message policy key P
+  unfolding redactAnswer withBuffers withPolicy
+  from-buffers true e q h = refused-fails b ShortBuffer 0 h
+  from-buffers false e q h = from-fault (messageFault message) refl h (rw (e, q))
+
+  pub is-done : readPolicy policy ≡ read P → redactOutcome b message policy key .number ≡ 0 → Done b message policy key P
+  unfolding redactOutcome redactAnswer withBuffers withPolicy
+  is-done q h = from-buffers (isShort b) refl q (rw q at h)

@@ -1,0 +1,11 @@
+pub mod Computes
+pub mod InStep
+pub mod TwoMessages
+pub mod Accepted
+pub mod Demand3
+pub mod Instances
+pub mod Judged
+pub mod Booked
+pub mod Acceptance
+pub mod Chains
+pub mod Sizes

@@ -1,0 +1,165 @@
+-- What each of the five entries hands back: number, line, lengths, rows and every byte of every lent buffer, from the bytes handed in
+-- and the lengths of the buffers. Assumes nothing: these are definitions.
+use mathlib.Core.Bool.{Bool, not, cond, _||_}
+use mathlib.Core.List.{List, [], _++_}
+use mathlib.Core.Option.{Option, none, some}
+use Prim.Native.Nat.{ℕ, _+_, _-_}
+use lib.ListN.{length, replicate}
+use lib.Dec.{eqb, ltb}
+use Rattle.text.specs.Text.{Text, all}
+use Rattle.er7_redact.specs.Action as A
+use Rattle.refusal.specs.declared.Refusal.{Refusal}
+use Rattle.refusal.specs.declared.Refusal.the-variants.{ShortBuffer, TooLong, ForeignByte, TooMany, ReportTooLong, Withheld, NoSuchBuiltin}
+use Rattle.refusal.specs.Refusal.{number, tooLong, isPlain}
+use Rattle.message_model.specs.Message.{messageOf, messageFault}
+use Rattle.policy_model.specs.Policy as Q
+use Rattle.policy_model.specs.Policy.{Policy, PolicyRead, read, readPolicy, Unrecognised, pass, refuse, apply, merged, printPolicy}
+use Rattle.policy_model.specs.Builtin.{builtinText}
+use Rattle.run_model.specs.Redact as R
+use Rattle.run_model.specs.Redact.{Row, Redacted, redact, printRows}
+
+-- ---- answers and outcomes
+
+-- a text with its rows, or a refusal with its line
+pub data Answer : Type 0 where
+  done : Text → List Row → Answer
+  refused : Refusal → ℕ → Answer
+
+-- the lengths of the lent buffers; an entry that is lent no report has 0 there
+pub record Lent : Type 0 where
+  pub output : ℕ
+  pub report : ℕ
+  pub scratch : ℕ
+
+-- what a call hands back
+pub record Outcome : Type 0 where
+  pub number : ℕ
+  pub line : ℕ
+  pub textLength : ℕ
+  pub reportLength : ℕ
+  pub rows : ℕ
+  pub output : Text
+  pub report : Text
+  pub scratch : Text
+
+-- a buffer of n bytes with the text t at its front and zeros behind
+unfoldable pub filled : Text → ℕ → Text
+filled t n = t ++ replicate (n - length t) 0
+
+-- "Success zeroes the scratch and the bytes behind text and report"; "Any refusal zeroes output, report and scratch whole, with
+-- lengths and rows 0"
+unfoldable pub outcome : Lent → Answer → Outcome
+outcome b (done t ρs) =
+    record {
+      number = 0;
+      line = 0;
+      textLength = length t;
+      reportLength = length (printRows ρs);
+      rows = length ρs;
+      output = filled t (b .output);
+      report = filled (printRows ρs) (b .report);
+      scratch = filled [] (b .scratch);
+    }
+outcome b (refused e n) =
+    record {
+      number = number e;
+      line = n;
+      textLength = 0;
+      reportLength = 0;
+      rows = 0;
+      output = filled [] (b .output);
+      report = filled [] (b .report);
+      scratch = filled [] (b .scratch);
+    }
+
+-- ---- what every entry judges first, and the parts of an order
+
+-- "output or scratch below 49,152 bytes"
+unfoldable pub isShort : Lent → Bool
+isShort b = ltb (b .output) 49152 || ltb (b .scratch) 49152
+
+unfoldable pub withBuffers : Lent → Answer → Answer
+withBuffers b a = cond (isShort b) (refused ShortBuffer 0) a
+
+-- a policy's refusal comes with its line
+unfoldable pub withPolicy : PolicyRead → (Policy → Answer) → Answer
+withPolicy (read P) f = f P
+withPolicy (Q.refused e n) f = refused e n
+
+unfoldable pub withoutFault : Option Refusal → Answer → Answer
+withoutFault none a = a
+withoutFault (some e) a = refused e 0
+
+-- ---- redact
+
+-- "report longer than its buffer": "12 last"
+unfoldable pub reported : Lent → Redacted → Answer
+reported b (R.done t ρs) = cond (ltb (b .report) (length (printRows ρs))) (refused ReportTooLong 0) (done t ρs)
+reported b (R.refused e) = refused e 0
+
+unfoldable pub redactAnswer : Lent → Text → Text → ℕ → Answer
+redactAnswer b message policy key =
+    withBuffers b
+    (withPolicy (readPolicy policy) λ P. withoutFault (messageFault message) (reported b (redact key P (messageOf message))))
+
+-- ---- print, append and built-in: "write the printed form of the policy read, merged or named"
+
+unfoldable pub printed : Policy → Answer
+printed P = done (printPolicy P) []
+
+unfoldable pub printAnswer : Lent → Text → Answer
+printAnswer b policy = withBuffers b (withPolicy (readPolicy policy) printed)
+
+-- "each policy whole ..; the merged rule count"
+unfoldable pub mergedAnswer : Policy → Policy → Answer
+mergedAnswer P Q = cond (ltb 128 (length (P .rules) + length (Q .rules))) (refused TooMany 0) (printed (merged P Q))
+
+unfoldable pub appendAnswer : Lent → Text → Text → Answer
+appendAnswer b first second =
+    withBuffers b (withPolicy (readPolicy first) λ P. withPolicy (readPolicy second) λ Q. mergedAnswer P Q)
+
+-- "number above 3"
+unfoldable pub builtinAnswer : Lent → ℕ → Answer
+builtinAnswer b n = withBuffers b (cond (ltb 3 n) (refused NoSuchBuiltin 0) (withPolicy (readPolicy (builtinText n)) printed))
+
+-- ---- payload: "the payload (2, 3, 13)"
+
+-- "CR and LF in a payload"
+unfoldable pub isPayloadByte : ℕ → Bool
+isPayloadByte x = isPlain x || eqb x 0x0d || eqb x 0x0a
+
+unfoldable pub payloadFault : Text → Option Refusal
+payloadFault t = cond (tooLong t) (some TooLong) (cond (not (all isPayloadByte t)) (some ForeignByte) none)
+
+-- the text that an action writes, or the payload where it writes none
+unfoldable pub writtenOr : Text → Option Text → Text
+writtenOr t none = t
+writtenOr t (some w) = w
+
+-- "payload under refuse"
+unfoldable pub unrecognised : ℕ → Unrecognised → Text → Answer
+unrecognised key pass t = done t []
+unrecognised key refuse t = refused Withheld 0
+unrecognised key (apply a) t = done (writtenOr t (A.apply key a t)) []
+
+unfoldable pub payloadAnswer : Lent → Text → Text → ℕ → Answer
+payloadAnswer b payload policy key =
+    withBuffers b
+    (withPolicy (readPolicy policy) λ P. withoutFault (payloadFault payload) (unrecognised key (P .unrecognised) payload))
+
+-- ---- the outcomes of the five entries
+
+unfoldable pub redactOutcome : Lent → Text → Text → ℕ → Outcome
+redactOutcome b message policy key = outcome b (redactAnswer b message policy key)
+
+unfoldable pub printOutcome : Lent → Text → Outcome
+printOutcome b policy = outcome b (printAnswer b policy)
+
+unfoldable pub appendOutcome : Lent → Text → Text → Outcome
+appendOutcome b first second = outcome b (appendAnswer b first second)
+
+unfoldable pub builtinOutcome : Lent → ℕ → Outcome
+builtinOutcome b n = outcome b (builtinAnswer b n)
+
+unfoldable pub payloadOutcome : Lent → Text → Text → ℕ → Outcome
+payloadOutcome b payload policy key = outcome b (payloadAnswer b payload policy key)

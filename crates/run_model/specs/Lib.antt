@@ -1,0 +1,4 @@
+pub mod Redact
+pub mod Entries
+pub mod Table
+pub mod Demand
