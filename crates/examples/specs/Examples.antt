@@ -9,7 +9,7 @@ use lib.ListN.{length, drop, replicate}
 use Rattle.text.specs.Text.{Text, bytes, same, all, begins}
 use Rattle.er7.specs.Path.{Path, readPath, printPath}
 use Rattle.er7_redact.specs.Pseudonym.{OFFSET, fold}
-use Rattle.er7_redact.specs.Action.{Action, keep, clear, null, pseudonym, replace, mask, first, last, readAction, apply}
+use Rattle.er7_redact.specs.Action.{Action, first, last, readAction, printAction, apply}
 use Rattle.er7.specs.declared.separators.Separators.{Separators}
 use Rattle.refusal.specs.declared.Refusal.{Refusal}
 use Rattle.refusal.specs.Refusal.{number}
@@ -71,19 +71,9 @@ samePath p q =
     same (p .segment) (q .segment) && eqb (p .occurrence) (q .occurrence) && eqb (p .field) (q .field) && eqb (p .repetition) (q .repetition)
     && eqb (p .component) (q .component) && eqb (p .subcomponent) (q .subcomponent)
 
--- an action as numbers, each of the eight by its own
-unfoldable pub numbers : Action → Text
-numbers keep = 0 ∷ []
-numbers clear = 1 ∷ []
-numbers null = 2 ∷ []
-numbers pseudonym = 3 ∷ []
-numbers (replace t) = 4 ∷ t
-numbers (mask c) = 5 ∷ c ∷ []
-numbers (first n) = 6 ∷ n ∷ []
-numbers (last n) = 7 ∷ n ∷ []
-
+-- two actions that print alike are one action
 unfoldable pub sameAction : Action → Action → Bool
-sameAction a b = same (numbers a) (numbers b)
+sameAction a b = same (printAction a) (printAction b)
 
 unfoldable pub is : {X : Type 0} → (X → X → Bool) → Option X → X → Bool
 is f none y = false

@@ -27,15 +27,18 @@ NoHeader (segment g xs ∷ ss) = (g .header ≡ false) × NoHeader ss
 abbrev pub headerLabel : Label
 headerLabel = record { name = bytes "MSH"; occurrence = 1; header = true }
 
+-- MSH-1 and MSH-2 before other leaves
+abbrev pub delimiterLeaves : Separators → List Leaf → List Leaf
+delimiterLeaves s xs =
+    leaf (atField 1) false (some (s .field ∷ []))
+    ∷ leaf (atField 2) false (some (s .component ∷ s .repetition ∷ s .escape ∷ s .subcomponent ∷ []))
+    ∷ xs
+
 -- the first segment is the header, with MSH-1 and MSH-2 in front, and no other is
 pub record HeaderFirst (s : Separators) (ss : List Segment) : Type 0 where
   pub rest : List Leaf
   pub others : List Segment
-  pub are : ss ≡ segment headerLabel
-      (leaf (atField 1) false (some (s .field ∷ []))
-      ∷ leaf (atField 2) false (some (s .component ∷ s .repetition ∷ s .escape ∷ s .subcomponent ∷ []))
-      ∷ rest)
-      ∷ others
+  pub are : ss ≡ segment headerLabel (delimiterLeaves s rest) ∷ others
   pub no-other : NoHeader others
 
 no-other-header : (s : Separators) (seen ls : List Text) → 1 ≤ length seen → NoHeader (segments s seen ls)

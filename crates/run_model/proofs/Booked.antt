@@ -8,8 +8,9 @@ use Prim.Native.Nat.{ℕ, _+_, _-_, _≤_}
 use native.Mathlib.Omega.{arith}
 use borrow.Author.Tests.{lt-ltb, le-ltb, ltb-true, ltb-false, leb-true, leb-false}
 use lib.ListN.{length, length-append}
-use lib.Dec.{leb, ltb}
-use Rattle.text.proofs.Laws.{clash}
+use lib.Dec.{T, leb, ltb}
+use Rattle.text.specs.Text.{Text}
+use Rattle.text.proofs.Laws.{by-cond, clash}
 use Rattle.er7.specs.declared.separators.Separators.{Separators}
 use Rattle.refusal.specs.declared.Refusal.{Refusal}
 use Rattle.refusal.specs.declared.Refusal.the-variants.{TooMuchLearnt, MessageTooLong, ReportTooLong}
@@ -19,7 +20,7 @@ use Rattle.policy_model.specs.Policy.{Policy}
 use Rattle.run_model.specs.Redact.{Row, Event, learn, change, Known, Book, running, stopped, knows, knownBytes, booked, bookAll, knownIn, segmentsEvents, unnamedEvents, overSegments, unnamedLeaf, forSweep, beforeSweep, eventsBeforeSweep, bookBeforeSweep, redactedAs, swept, redact, printRows}
 use Rattle.run_model.specs.Entries.{Answer, done, refused, Lent, reported}
 use Rattle.run_model.specs.Table.{is, learntFrom, rowsOf, overflows, learntIn, eventsOf, exceeds, runRow}
-use Rattle.run_model.proofs.InStep.{Learns, learns-segs}
+use Rattle.run_model.proofs.Learning.{AllKnown, known-snoc, Learns, learns-segs}
 use Rattle.run_model.proofs.Judged.{Judges, or-false, or-left, or-right, and-none}
 
 -- ---- what is learnt only grows
@@ -53,11 +54,11 @@ learnt-grown (change ρ went came ∷ es) ks = learnt-grown es ks
 -- ---- the book against the table
 
 -- what the sweep would know
-abbrev known : Bool → List Known → List Event → List Known
+abbrev pub known : Bool → List Known → List Event → List Known
 known sweep ks es = cond sweep (learntFrom ks es) ks
 
 -- a book that knows L and has the rows σ and no change too large (o); or it stopped
-abbrev BookIs : List Known → List Row → Bool → Book → Type 0
+abbrev pub BookIs : List Known → List Row → Bool → Book → Type 0
 BookIs L σ o (running ls σs y) = (ls ≡ L) × (σs ≡ σ) × (exceeds L ≡ false) × (o ≡ false)
 BookIs L σ o (stopped e) = ((e ≡ TooMuchLearnt) × (exceeds L ≡ true)) ⊎ ((e ≡ MessageTooLong) × (o ≡ true))
 
@@ -137,6 +138,20 @@ learnt-none [] ks h = refl
 learnt-none (learn v a ∷ es) ks h = absurd (h .0)
 learnt-none (change ρ went came ∷ es) ks h = learnt-none es ks h
 
+-- with the sweep on, what is known was learnt; with the sweep off nothing is
+learnt-known : (Q : Text → Type 0) (es : List Event) (ks : List Known) → Learns Q es → AllKnown Q ks → AllKnown Q (learntFrom ks es)
+unfolding learntFrom
+learnt-known Q [] ks h k = k
+learnt-known Q (learn v a ∷ es) ks h k =
+    by-cond (λ (l : List Known). AllKnown Q (learntFrom l es)) (knows v ks) ks _ (λ _. learnt-known Q es ks (h .1) k)
+    (λ _. learnt-known Q es _ (h .1) (known-snoc Q ks _ k (h .0)))
+learnt-known Q (change ρ went came ∷ es) ks h k = learnt-known Q es ks h k
+
+pub known-all-learnt : (Q : Text → Type 0) (es : List Event) (sweep : Bool) → T (not sweep) ⊎ Learns Q es → AllKnown Q (known sweep [] es)
+known-all-learnt Q es true (inl off) = absurd off
+known-all-learnt Q es true (inr h) = learnt-known Q es [] h tt
+known-all-learnt Q es false h = tt
+
 learnt-append : (a b : List Event) (ks : List Known) → learntFrom ks (a ++ b) ≡ learntFrom (learntFrom ks a) b
 unfolding learntFrom
 learnt-append [] b ks = refl
@@ -160,9 +175,6 @@ book-append sweep [] b B = refl
 book-append sweep (e ∷ a) b B = book-append sweep a b (booked sweep B e)
 
 -- ---- a run
-
-three-false : {a b c : Bool} → a ≡ false → b ≡ false → c ≡ false → (a || b || c) ≡ false
-three-false {a} {b} {c} h k l = rw (h, k, l)
 
 unfoldable pub refusalIn : Answer → Option Refusal
 refusalIn (done t ρs) = none
@@ -196,7 +208,7 @@ module _ (b : Lent) (key : ℕ) (P : Policy) (m : Message) where
       go : (c : Bool) → ltb (b .report) (length (printRows (rowsOf (eventsOf key P m)))) ≡ c
           → Judges (runRow b key P m) (refusalIn (cond c (refused ReportTooLong 0) (done (printSegments s (m .lastCR) ss) (rowsOf (eventsOf key P m)))))
       go true e = unfold refusalIn runRow is number in rw e
-      go false e = unfold refusalIn runRow in λ x. three-false (and-none (is x TooMuchLearnt) (h .2)) (and-none (is x MessageTooLong) (h .3)) (and-none (is x ReportTooLong) e)
+      go false e = unfold refusalIn runRow in λ x. or-false (or-false (and-none (is x TooMuchLearnt) (h .2)) (and-none (is x MessageTooLong) (h .3))) (and-none (is x ReportTooLong) e)
   finished (stopped e) (inl (q, x)) ss = unfold refusalIn runRow in rw q (unfold is number in rw x)
   finished (stopped e) (inr (q, x)) ss = unfold refusalIn runRow in rw q (unfold is number in rw x)
 

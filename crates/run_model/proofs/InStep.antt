@@ -4,21 +4,20 @@ use mathlib.Core.Path.{_≡_, refl, sym, ap, ap₂, _∙_}
 use mathlib.Core.Logic.{_⊎_, inl, inr, ⊎-elim}
 use mathlib.Core.Bool.{Bool, true, false, true≢false, not, cond, _&&_, _||_}
 use mathlib.Core.Option.{Option, none, some, Option·some-injective}
-use mathlib.Core.List.{List, [], _∷_, _++_, append-nil, append-assoc, List·Memᴰ, List·Memᴰ·head, List·Memᴰ·tail}
-use Prim.Native.Nat.{ℕ, zero, suc, _+_, _-_}
+use mathlib.Core.List.{List, [], _∷_, _++_}
+use Prim.Native.Nat.{ℕ, zero, suc}
 use lib.ListN.{length}
-use lib.Dec.{T, ltb, leb}
+use lib.Dec.{T, ltb}
 use Rattle.text.specs.Text.{Text, lower, same}
 use Rattle.er7.specs.declared.message.Place.{Place}
 use Rattle.er7.specs.declared.separators.Separators.{Separators}
 use Rattle.er7_redact.specs.Action.{Action, keep, clear, null, pseudonym, replace, mask, first, last, kind, isKeep, isNullAction, apply}
 use Rattle.er7_redact.specs.Policy.{Rule}
-use Rattle.refusal.specs.declared.Refusal.the-variants.{TooMuchLearnt, MessageTooLong}
 use Rattle.message_model.specs.Message.{Leaf, leaf, Label, Segment, segment}
-use Rattle.message_model.specs.Value.{isNull, isEmptyOrNull, value, isWholeWord}
-use Rattle.run_model.specs.Redact.{covers, Depth, Reach, each-leaf, each-node, reach, isNode, starts, restOfNode, Fate, stays, vanishes, becomes, after, moved, replaced, act, isNil, collapse, fateIn, fate, Row, row, Event, learn, change, changing, learning, took, ruleLeaf, ruleEvents, isUnnamed, actOr, unnamedLeaf, changingOr, unnamedEvents, overLeaves, overSegments, leavesEvents, segmentsEvents, Known, Book, running, stopped, knows, knownBytes, booked, bookAll, knownIn, afterRule, afterRules, rulesEvents, firstFound, forSweep}
+use Rattle.message_model.specs.Value.{isNull, isEmptyOrNull, value}
+use Rattle.run_model.specs.Redact.{covers, Depth, Reach, each-leaf, each-node, reach, isNode, starts, restOfNode, Fate, stays, vanishes, becomes, after, moved, replaced, act, isNil, collapse, fateIn, fate, Row, row, Event, learn, change, changing, learning, took, ruleLeaf, ruleEvents, overLeaves, leavesEvents, segmentsEvents, afterRule, afterRules, rulesEvents}
 use Rattle.run_model.specs.Table.{rowsOf}
-use Rattle.run_model.specs.Demand.{atLeaf, at, text, textAt, works, worksAt, collapses, ChangedAt, SettledAt, NotIn, NotInLeaves, NotInSegments}
+use Rattle.run_model.specs.Demand.{atLeaf, at, text, textAt, works, worksAt, collapses, ChangedAt, SettledAt}
 
 -- ---- two lists of leaves of one shape
 
@@ -31,7 +30,7 @@ pub data SameShapes : List Segment → List Segment → Type 0 where
   end : SameShapes [] []
   next : {ss zs : List Segment} {xs ys : List Leaf} (g : Label) → SameShape xs ys → SameShapes ss zs → SameShapes (segment g xs ∷ ss) (segment g ys ∷ zs)
 
--- ---- what a afterRule does to the shape
+-- ---- what a rule does to the shape
 
 alone-none : {A : Type 0} (b : Bool) (k l : List A) → isNil k ≡ isNil l → isNil (cond b [] k) ≡ isNil (cond b [] l)
 alone-none true k l e = refl
@@ -44,17 +43,17 @@ rest-nil d (gone p n w) = rest-nil d w
 rest-nil d (live p n t u w) = alone-none (starts d p) _ _ refl
 
 module _ (key : ℕ) (s : Separators) where
-  fateIn-twins : (q : Reach) (a : Action) (p : Place) (t : Text) {xs ys : List Leaf} → SameShape xs ys
+  fateIn-shape : (q : Reach) (a : Action) (p : Place) (t : Text) {xs ys : List Leaf} → SameShape xs ys
       → fateIn key s q a p t xs ≡ fateIn key s q a p t ys
   unfolding fateIn
-  fateIn-twins each-leaf a p t w = refl
-  fateIn-twins (each-node d) a p t w = ap (λ (z : Bool). collapse (starts d p) (isNull t && z)) (rest-nil d w)
+  fateIn-shape each-leaf a p t w = refl
+  fateIn-shape (each-node d) a p t w = ap (λ (z : Bool). collapse (starts d p) (isNull t && z)) (rest-nil d w)
 
-  fate-twins : (r : Rule) (g : Label) (p : Place) (t : Text) {xs ys : List Leaf} → SameShape xs ys → fate key s r g p t xs ≡ fate key s r g p t ys
+  fate-shape : (r : Rule) (g : Label) (p : Place) (t : Text) {xs ys : List Leaf} → SameShape xs ys → fate key s r g p t xs ≡ fate key s r g p t ys
   unfolding fate
-  fate-twins r g p t w = ap (λ (z : Fate). cond (covers r g p) z stays) (fateIn-twins (reach r) (r .action) p t w)
+  fate-shape r g p t w = ap (λ (z : Fate). cond (covers r g p) z stays) (fateIn-shape (reach r) (r .action) p t w)
 
--- which leaves vanish does not afterRule on their text
+-- which leaves vanish does not depend on their text
 
 abbrev pub isGone : Fate → Bool
 isGone stays = false
@@ -101,32 +100,32 @@ module _ (key : ℕ) (s : Separators) where
   fate-gone r g p t u xs ys =
       gone-covered (covers r g p) _ _ (fateIn-gone (reach r) (r .action) p t xs ∙ sym (fateIn-gone (reach r) (r .action) p u ys))
 
--- the shape after a afterRule
+-- the shape after a rule
 
-twins-after : (p : Place) (n : Bool) (F G : Fate) (t u : Text) {xs ys : List Leaf} → isGone F ≡ isGone G → SameShape xs ys
+shape-after : (p : Place) (n : Bool) (F G : Fate) (t u : Text) {xs ys : List Leaf} → isGone F ≡ isGone G → SameShape xs ys
     → SameShape (leaf p n (after F t) ∷ xs) (leaf p n (after G u) ∷ ys)
 unfolding after
-twins-after p n stays stays t u e w = live p n _ _ w
-twins-after p n stays (becomes v) t u e w = live p n _ _ w
-twins-after p n stays vanishes t u e w = absurd (true≢false (sym e))
-twins-after p n (becomes v) stays t u e w = live p n _ _ w
-twins-after p n (becomes v) (becomes v′) t u e w = live p n _ _ w
-twins-after p n (becomes v) vanishes t u e w = absurd (true≢false (sym e))
-twins-after p n vanishes stays t u e w = absurd (true≢false e)
-twins-after p n vanishes (becomes v) t u e w = absurd (true≢false e)
-twins-after p n vanishes vanishes t u e w = gone p n w
+shape-after p n stays stays t u e w = live p n _ _ w
+shape-after p n stays (becomes v) t u e w = live p n _ _ w
+shape-after p n stays vanishes t u e w = absurd (true≢false (sym e))
+shape-after p n (becomes v) stays t u e w = live p n _ _ w
+shape-after p n (becomes v) (becomes v′) t u e w = live p n _ _ w
+shape-after p n (becomes v) vanishes t u e w = absurd (true≢false (sym e))
+shape-after p n vanishes stays t u e w = absurd (true≢false e)
+shape-after p n vanishes (becomes v) t u e w = absurd (true≢false e)
+shape-after p n vanishes vanishes t u e w = gone p n w
 
 module _ (key : ℕ) (s : Separators) (r : Rule) where
-  turn-twins : (g : Label) {xs ys : List Leaf} → SameShape xs ys → SameShape (overLeaves (ruleLeaf key s r) g xs) (overLeaves (ruleLeaf key s r) g ys)
+  turn-shape : (g : Label) {xs ys : List Leaf} → SameShape xs ys → SameShape (overLeaves (ruleLeaf key s r) g xs) (overLeaves (ruleLeaf key s r) g ys)
   unfolding ruleLeaf
-  turn-twins g end = end
-  turn-twins g (gone p n w) = gone p n (turn-twins g w)
-  turn-twins g (live p n t u w) = twins-after p _ _ _ t u (fate-gone key s r g p t u _ _) (turn-twins g w)
+  turn-shape g end = end
+  turn-shape g (gone p n w) = gone p n (turn-shape g w)
+  turn-shape g (live p n t u w) = shape-after p _ _ _ t u (fate-gone key s r g p t u _ _) (turn-shape g w)
 
   turn-segs : {ss zs : List Segment} → SameShapes ss zs → SameShapes (afterRule key s r ss) (afterRule key s r zs)
   unfolding afterRule
   turn-segs end = end
-  turn-segs (next g w v) = next g (turn-twins g w) (turn-segs v)
+  turn-segs (next g w v) = next g (turn-shape g w) (turn-segs v)
 
   -- equal texts stay equal
   turn-text : (g : Label) {xs ys : List Leaf} → SameShape xs ys → (j : ℕ) → atLeaf none text g xs j ≡ atLeaf none text g ys j
@@ -137,7 +136,7 @@ module _ (key : ℕ) (s : Separators) (r : Rule) where
   turn-text g (gone p n w) (suc j) e = turn-text g w j e
   turn-text g (live {xs = xs} p n t u w) zero e =
       let h : t ≡ u = Option·some-injective t u e in
-      ap (λ (v : Text). after (fate key s r g p v xs) v) h ∙ ap (λ (F : Fate). after F u) (fate-twins key s r g p u w)
+      ap (λ (v : Text). after (fate key s r g p v xs) v) h ∙ ap (λ (F : Fate). after F u) (fate-shape key s r g p u w)
   turn-text g (live p n t u w) (suc j) e = turn-text g w j e
 
   turn-textAt : {ss zs : List Segment} → SameShapes ss zs → (i j : ℕ) → textAt ss i j ≡ textAt zs i j
@@ -147,7 +146,7 @@ module _ (key : ℕ) (s : Separators) (r : Rule) where
   turn-textAt (next g w v) zero j e = turn-text g w j e
   turn-textAt (next g w v) (suc i) j e = turn-textAt v i j e
 
--- ---- the rows of a afterRule
+-- ---- the rows of a rule
 
 pub rows-append : (a b : List Event) → rowsOf (a ++ b) ≡ rowsOf a ++ rowsOf b
 rows-append [] b = refl
@@ -241,7 +240,7 @@ module _ (key : ℕ) (s : Separators) where
       → Fair r g (leaf p n (some t) ∷ xs) (leaf p n (some u) ∷ ys) zero
       → fateRows (row g p (r .action)) (fate key s r g p t xs) ≡ fateRows (row g p (r .action)) (fate key s r g p u ys)
   rows-leaf r g p n t u {xs} {ys} w (inl e) =
-      ap (fateRows (row g p (r .action))) (ap (λ (v : Text). fate key s r g p v xs) (Option·some-injective t u e) ∙ fate-twins key s r g p u w)
+      ap (fateRows (row g p (r .action))) (ap (λ (v : Text). fate key s r g p v xs) (Option·some-injective t u e) ∙ fate-shape key s r g p u w)
   rows-leaf r g p n t u {xs} {ys} w (inr h) =
       ⊎-elim
       (λ k. let m = cond-yes _ _ (covers r g p && not (isKeep (r .action))) k h in rows-moved _ _ _ (fate-gone key s r g p t u xs ys) (m .0) (m .1))
@@ -268,9 +267,9 @@ moved-text stays t h = absurd (h refl)
 moved-text (becomes w) t h = tt
 moved-text vanishes t h = tt
 
-and-right : (b c : Bool) → T (b && c) → T c
-and-right true c h = h
-and-right false c h = absurd h
+holds-right : (b c : Bool) → T (b && c) → T c
+holds-right true c h = h
+holds-right false c h = absurd h
 
 module _ (key : ℕ) (s : Separators) (r : Rule) where
   changed-in : (g : Label) (xs : List Leaf) (j : ℕ)
@@ -282,7 +281,7 @@ module _ (key : ℕ) (s : Separators) (r : Rule) where
   changed-in g (leaf p n none ∷ xs) zero (inl h) = absurd (h refl)
   changed-in g (leaf p n none ∷ xs) zero (inr h) = h
   changed-in g (leaf p n (some t) ∷ xs) zero (inl h) = moved-text _ t h
-  changed-in g (leaf p n (some t) ∷ xs) zero (inr h) = and-right (isNode (reach r)) _ h
+  changed-in g (leaf p n (some t) ∷ xs) zero (inr h) = holds-right (isNode (reach r)) _ h
   changed-in g (x ∷ xs) (suc j) h = changed-in g xs j h
 
   changed-moves : (ss : List Segment) (i j : ℕ) → ChangedAt key s r ss i j → T (at false (moves key s r) ss i j)
@@ -313,14 +312,14 @@ cond-left : (A B C S : Type 0) (b : Bool) → cond b (A × B × C) S → C ⊎ S
 cond-left A B C S true h = inl (h .2)
 cond-left A B C S false h = inr h
 
-twins-eq : (g : Label) {xs ys : List Leaf} → SameShape xs ys → ((j : ℕ) → atLeaf none text g xs j ≡ atLeaf none text g ys j) → xs ≡ ys
-twins-eq g end H = refl
-twins-eq g (gone p n w) H = ap (λ (l : List Leaf). leaf p n none ∷ l) (twins-eq g w (λ j. H (suc j)))
-twins-eq g (live p n t u w) H = ap₂ (λ (o : Option Text) (l : List Leaf). leaf p n o ∷ l) (H zero) (twins-eq g w (λ j. H (suc j)))
+shape-eq : (g : Label) {xs ys : List Leaf} → SameShape xs ys → ((j : ℕ) → atLeaf none text g xs j ≡ atLeaf none text g ys j) → xs ≡ ys
+shape-eq g end H = refl
+shape-eq g (gone p n w) H = ap (λ (l : List Leaf). leaf p n none ∷ l) (shape-eq g w (λ j. H (suc j)))
+shape-eq g (live p n t u w) H = ap₂ (λ (o : Option Text) (l : List Leaf). leaf p n o ∷ l) (H zero) (shape-eq g w (λ j. H (suc j)))
 
 segs-eq : {a b : List Segment} → SameShapes a b → ((i j : ℕ) → textAt a i j ≡ textAt b i j) → a ≡ b
 segs-eq end H = refl
-segs-eq (next g w v) H = ap₂ (λ (l : List Leaf) (m : List Segment). segment g l ∷ m) (twins-eq g w (λ j. H zero j)) (segs-eq v (λ i j. H (suc i) j))
+segs-eq (next g w v) H = ap₂ (λ (l : List Leaf) (m : List Segment). segment g l ∷ m) (shape-eq g w (λ j. H zero j)) (segs-eq v (λ i j. H (suc i) j))
 
 module _ (key : ℕ) (s : Separators) where
   abbrev pub Good : List Rule → List Segment → List Segment → ℕ → ℕ → Type 0
@@ -351,167 +350,3 @@ module _ (key : ℕ) (s : Separators) where
             ∙ ap₂ (λ (x y : List Row). x ++ y) (rows-segs key s r v (λ i j. good-fair r rs a b i j (H i j))) (ih .1)
             ∙ sym (rows-append (segmentsEvents (ruleEvents key s r) b) _),
       )
-
--- ---- the book's rows
-
-abbrev pub Rows : Book → List Row → Type 0
-Rows (running ks ρs z) xs = ρs ≡ xs
-Rows (stopped e) xs = Unit {0}
-
-rows-either : (b : Bool) (B C : Book) (xs : List Row) → Rows B xs → Rows C xs → Rows (cond b B C) xs
-rows-either true B C xs h k = h
-rows-either false B C xs h k = k
-
-booked-rows : (sweep : Bool) (B : Book) (e : Event) (xs : List Row) → Rows B xs → Rows (booked sweep B e) (xs ++ rowsOf (e ∷ []))
-unfolding booked
-booked-rows sweep (stopped n) e xs h = tt
-booked-rows sweep (running ks ρs z) (learn v a) xs h =
-    let k : ρs ≡ xs ++ [] = h ∙ sym (append-nil xs) in
-    rows-either (not sweep || knows v ks) _ _ _ k (rows-either (leb 512 (length ks) || ltb 16384 (knownBytes ks + length v)) _ _ _ tt k)
-booked-rows sweep (running ks ρs z) (change ρ went came) xs h =
-    rows-either (ltb 49152 (z - went + came)) (stopped MessageTooLong) _ _ tt (ap (λ (l : List Row). l ++ ρ ∷ []) h)
-
-rows-cons : (e : Event) (es : List Event) → rowsOf (e ∷ es) ≡ rowsOf (e ∷ []) ++ rowsOf es
-rows-cons (learn v a) es = refl
-rows-cons (change ρ went came) es = refl
-
-pub books-rows : (sweep : Bool) (es : List Event) (B : Book) (xs : List Row) → Rows B xs → Rows (bookAll sweep es B) (xs ++ rowsOf es)
-unfolding bookAll
-books-rows sweep [] B xs h = rw append-nil h
-books-rows sweep (e ∷ es) B xs h =
-    rw (rows-cons e es, ← append-assoc xs (rowsOf (e ∷ [])) (rowsOf es)) (books-rows sweep es (booked sweep B e) _ (booked-rows sweep B e xs h))
-
--- ---- what the book knows was learnt
-
-abbrev pub AllKnown : (Text → Type 0) → List Known → Type 0
-AllKnown Q [] = Unit {0}
-AllKnown Q (k ∷ ks) = Q (k .value) × AllKnown Q ks
-
-abbrev pub Learns : (Text → Type 0) → List Event → Type 0
-Learns Q [] = Unit {0}
-Learns Q (learn v a ∷ es) = Q v × Learns Q es
-Learns Q (change ρ went came ∷ es) = Learns Q es
-
-pub learns-append : (Q : Text → Type 0) (a b : List Event) → Learns Q a → Learns Q b → Learns Q (a ++ b)
-learns-append Q [] b h k = k
-learns-append Q (learn v x ∷ a) b h k = (h .0, learns-append Q a b (h .1) k)
-learns-append Q (change ρ went came ∷ a) b h k = learns-append Q a b h k
-
-pub learns-of : (Q : Text → Type 0) (es : List Event) → ((v : Text) (a : Action) → List·Memᴰ (learn v a) es → Q v) → Learns Q es
-learns-of Q [] h = tt
-learns-of Q (learn v a ∷ es) h = (h v a (List·Memᴰ·head refl), learns-of Q es (λ w b m. h w b (List·Memᴰ·tail m)))
-learns-of Q (change ρ went came ∷ es) h = learns-of Q es (λ w b m. h w b (List·Memᴰ·tail m))
-
-known-snoc : (Q : Text → Type 0) (ks : List Known) (k : Known) → AllKnown Q ks → Q (k .value) → AllKnown Q (ks ++ k ∷ [])
-known-snoc Q [] k h q = (q, tt)
-known-snoc Q (x ∷ ks) k h q = (h .0, known-snoc Q ks k (h .1) q)
-
-known-either : (Q : Text → Type 0) (b : Bool) (B C : Book) → AllKnown Q (knownIn B) → AllKnown Q (knownIn C) → AllKnown Q (knownIn (cond b B C))
-known-either Q true B C h k = h
-known-either Q false B C h k = k
-
-pub books-known : (Q : Text → Type 0) (sweep : Bool) (es : List Event) (B : Book) → Learns Q es → AllKnown Q (knownIn B) → AllKnown Q (knownIn (bookAll sweep es B))
-unfolding bookAll booked knownIn
-books-known Q sweep [] B h k = k
-books-known Q sweep (e ∷ es) (stopped n) h k = books-known Q sweep es (stopped n) (drop-one e h) tt
-  where
-    drop-one : (x : Event) → Learns Q (x ∷ es) → Learns Q es
-    drop-one (learn v a) l = l .1
-    drop-one (change ρ went came) l = l
-books-known Q sweep (learn v a ∷ es) (running ks ρs z) h k =
-    books-known Q sweep es _ (h .1)
-    (known-either Q (not sweep || knows v ks) _ _ k
-    (known-either Q (leb 512 (length ks) || ltb 16384 (knownBytes ks + length v)) (stopped TooMuchLearnt) _ tt (known-snoc Q ks _ k (h .0))))
-books-known Q sweep (change ρ went came ∷ es) (running ks ρs z) h k =
-    books-known Q sweep es _ h (known-either Q (ltb 49152 (z - went + came)) (stopped MessageTooLong) _ tt k)
-
--- ---- a sweep that finds nothing
-
-known-map : (Q R : Text → Type 0) (ks : List Known) → ((v : Text) → Q v → R v) → AllKnown Q ks → AllKnown R ks
-known-map Q R [] f h = tt
-known-map Q R (k ∷ ks) f h = (f (k .value) (h .0), known-map Q R ks f (h .1))
-
-cond-none : (b : Bool) (o : Option Action) → o ≡ none → cond b none o ≡ none
-cond-none true o e = refl
-cond-none false o e = e
-
-find-step : (b : Bool) (a : Action) (o : Option Action) → T (not b) → o ≡ none → cond b (some a) o ≡ none
-find-step true a o h e = absurd h
-find-step false a o h e = e
-
-module _ (key : ℕ) (s : Separators) where
-  find-none : (w : Text) (ks : List Known) → AllKnown (λ v. T (not (isWholeWord v w))) ks → firstFound ks w ≡ none
-  unfolding firstFound
-  find-none w [] h = refl
-  find-none w (k ∷ ks) h = find-step (isWholeWord (k .value) w) (k .action) _ (h .0) (find-none w ks (h .1))
-
-  -- a isUnnamed leaf that the sweep does not firstFound stays, and nothing is said of it
-  still : (b : Bool) (g : Label) (p : Place) (t : Text) (o : Option Action) → (T b → o ≡ none)
-      → (cond b (actOr key s o t) stays ≡ stays) × (cond b (changingOr key s o g p t) [] ≡ [])
-  unfolding actOr changingOr
-  still true g p t o h = (rw (h tt), rw (h tt))
-  still false g p t o h = (refl, refl)
-
-  still-leaf : (ks : List Known) (g : Label) (x : Leaf) (xs : List Leaf) → AllKnown (λ v. NotIn s v g x) ks
-      → (unnamedLeaf key s (forSweep s ks) g x xs ≡ x) × (unnamedEvents key s (forSweep s ks) g x xs ≡ [])
-  unfolding unnamedLeaf unnamedEvents forSweep after isUnnamed
-  still-leaf ks g (leaf p n none) xs h = (refl, refl)
-  still-leaf ks g (leaf p n (some t)) xs h =
-      let e = still (isUnnamed g p n) g p t (forSweep s ks t) (λ f. cond-none (isEmptyOrNull t) _ (find-none _ ks (known-map _ _ ks (λ v q. q f) h))) in
-      (ap (λ (F : Fate). leaf p n (after F t)) (e .0), e .1)
-
-  still-in : (ks : List Known) (g : Label) (xs : List Leaf) → AllKnown (λ v. NotInLeaves s v g xs) ks
-      → (overLeaves (unnamedLeaf key s (forSweep s ks)) g xs ≡ xs) × (leavesEvents (unnamedEvents key s (forSweep s ks)) g xs ≡ [])
-  still-in ks g [] h = (refl, refl)
-  still-in ks g (x ∷ xs) h =
-      let e = still-leaf ks g x xs (known-map _ _ ks (λ v q. q .0) h) in
-      let f = still-in ks g xs (known-map _ _ ks (λ v q. q .1) h) in
-      (ap₂ (λ (y : Leaf) (ys : List Leaf). y ∷ ys) (e .0) (f .0), ap₂ (λ (a b : List Event). a ++ b) (e .1) (f .1))
-
-  pub still-segs : (ks : List Known) (ss : List Segment) → AllKnown (λ v. NotInSegments s v ss) ks
-      → (overSegments (unnamedLeaf key s (forSweep s ks)) ss ≡ ss) × (segmentsEvents (unnamedEvents key s (forSweep s ks)) ss ≡ [])
-  still-segs ks [] h = (refl, refl)
-  still-segs ks (segment g xs ∷ ss) h =
-      let e = still-in ks g xs (known-map _ _ ks (λ v q. q .0) h) in
-      let f = still-segs ks ss (known-map _ _ ks (λ v q. q .1) h) in
-      (ap₂ (λ (l : List Leaf) (m : List Segment). segment g l ∷ m) (e .0) (f .0), ap₂ (λ (a b : List Event). a ++ b) (e .1) (f .1))
-
--- ---- posture and sweep learn nothing; with the sweep off nothing is learnt
-
-learns-cond : (Q : Text → Type 0) (b : Bool) (a c : List Event) → Learns Q a → Learns Q c → Learns Q (cond b a c)
-learns-cond Q true a c h k = h
-learns-cond Q false a c h k = k
-
-learns-changing : (Q : Text → Type 0) (ρ : Row) (went : ℕ) (F : Fate) → Learns Q (changing ρ went F)
-unfolding changing
-learns-changing Q ρ went stays = tt
-learns-changing Q ρ went (becomes w) = tt
-learns-changing Q ρ went vanishes = tt
-
-module _ (key : ℕ) (s : Separators) (Q : Text → Type 0) (f : Text → Option Action) where
-  learns-opt : (o : Option Action) (g : Label) (p : Place) (t : Text) → Learns Q (changingOr key s o g p t)
-  unfolding changingOr
-  learns-opt none g p t = tt
-  learns-opt (some a) g p t = learns-changing Q _ _ (act key s a t)
-
-  learns-leaf : (g : Label) (x : Leaf) (xs : List Leaf) → Learns Q (unnamedEvents key s f g x xs)
-  unfolding unnamedEvents
-  learns-leaf g (leaf p n none) xs = tt
-  learns-leaf g (leaf p n (some t)) xs = learns-cond Q (isUnnamed g p n) _ _ (learns-opt (f t) g p t) tt
-
-  learns-in : (g : Label) (xs : List Leaf) → Learns Q (leavesEvents (unnamedEvents key s f) g xs)
-  learns-in g [] = tt
-  learns-in g (x ∷ xs) = learns-append Q (unnamedEvents key s f g x xs) _ (learns-leaf g x xs) (learns-in g xs)
-
-  pub learns-segs : (ss : List Segment) → Learns Q (segmentsEvents (unnamedEvents key s f) ss)
-  learns-segs [] = tt
-  learns-segs (segment g xs ∷ ss) = learns-append Q (leavesEvents (unnamedEvents key s f) g xs) _ (learns-in g xs) (learns-segs ss)
-
-pub known-off : (Q : Text → Type 0) (sweep : Bool) → T (not sweep) → (es : List Event) (B : Book) → AllKnown Q (knownIn B) → AllKnown Q (knownIn (bookAll sweep es B))
-unfolding bookAll booked knownIn
-known-off Q true off es B k = absurd off
-known-off Q false off [] B k = k
-known-off Q false off (e ∷ es) (stopped n) k = known-off Q false off es (stopped n) tt
-known-off Q false off (learn v a ∷ es) (running ks ρs z) k = known-off Q false off es (running ks ρs z) k
-known-off Q false off (change ρ went came ∷ es) (running ks ρs z) k =
-    known-off Q false off es _ (known-either Q (ltb 49152 (z - went + came)) (stopped MessageTooLong) _ tt k)

@@ -10,7 +10,7 @@ use borrow.Author.Tests.{eq-eqb, ne-eqb, lt-ltb, le-ltb, ltb-true, ltb-false, le
 use lib.ListN.{length, length-append}
 use lib.Dec.{leb, ltb}
 use Rattle.text.specs.Text.{Text, all}
-use Rattle.text.proofs.Laws.{clash}
+use Rattle.text.proofs.Laws.{and-false, clash}
 use Rattle.er7.specs.declared.separators.Separators.{Separators}
 use Rattle.er7_redact.specs.Policy.{Rule}
 use Rattle.refusal.specs.declared.Refusal.{Refusal}
@@ -109,19 +109,14 @@ unfolding readLines
 lines-judged [] n p h = unfold policyRefusal linesRow ruleCount saysWrong in λ e. or-false (and-none (is e TooMany) (le-ltb 128 (length (p .rules) + 0) (omega arith))) refl
 lines-judged (l ∷ ls) n p h = line-judged n l ls (lines-judged ls (suc n)) p h (saysLine l) refl
 
--- two tests that fail
-drop-two : (a b c d : Bool) → (a && false || b && false || c || d) ≡ (c || d)
-drop-two true true c d = refl
-drop-two true false c d = refl
-drop-two false true c d = refl
-drop-two false false c d = refl
-
 pub policy-judged : (s : Text) → Judges (policyRow s) (policyRefusal (readPolicy s))
 unfolding readPolicy
 policy-judged s = go (tooLong s) (isPolicyText s) refl refl
   where
     only-lines : tooLong s ≡ false → isPolicyText s ≡ true → (e : Refusal) → linesRow (length (start .rules)) (policyLines s) e ≡ policyRow s e
-    only-lines a b e = unfold linesRow policyRow start in rw (a, b) (rw (zero-add (ruleCount (policyLines s))) (sym (drop-two (is e TooLong) (is e ForeignByte) _ _)))
+    only-lines a b e =
+        unfold linesRow policyRow start in
+        rw (a, b, and-false (is e TooLong), and-false (is e ForeignByte), zero-add (ruleCount (policyLines s)))
 
     go : (a b : Bool) → tooLong s ≡ a → isPolicyText s ≡ b
         → Judges (policyRow s) (policyRefusal (cond a (Q.refused TooLong 0) (cond b (readLines 1 start (policyLines s)) (Q.refused ForeignByte 0))))
@@ -212,17 +207,6 @@ module _ (s : Separators) where
           judges-same (segmentsRow s 1 (0 + length (leavesOf s true l)) ls) (headerRow s l ls) (segmentsFault s 1 (0 + length (leavesOf s true l)) ls) rows
           (segments-judged ls 1 (0 + length (leavesOf s true l)) (omega arith) (omega arith) (ltb-false 4096 (0 + length (leavesOf s true l)) e))
 
--- three tests that fail
-drop-three : (a b c x y : Bool) → (a && false || b && false || c && false || x || y) ≡ (x || y)
-drop-three true true true x y = refl
-drop-three true true false x y = refl
-drop-three true false true x y = refl
-drop-three true false false x y = refl
-drop-three false true true x y = refl
-drop-three false true false x y = refl
-drop-three false false true x y = refl
-drop-three false false false x y = refl
-
 pub message-judged : (t : Text) → Judges (messageRow t) (messageFault t)
 unfolding messageFault firstOf
 message-judged t = lines-from (segmentLines [] (withoutLastCR t)) refl (tooLong t) (all isMessageByte t) (isHeader (firstOf (segmentLines [] (withoutLastCR t)))) refl refl refl
@@ -231,8 +215,7 @@ message-judged t = lines-from (segmentLines [] (withoutLastCR t)) refl (tooLong 
         → (x : Refusal) → headerRow (separatorsOf l) l ls x ≡ messageRow t x
     only-lines l ls q e f g x =
         unfold messageRow headerRow othersOf firstOf in
-        rw (q, e, f, g) (sym (drop-three (is x TooLong) (is x ForeignByte) (is x BadHeader) (is x BadSegment && not (allNamed (separatorsOf l) ls))
-        (is x TooMany && (ltb 256 (length (l ∷ ls)) || ltb 4096 (length (leavesOf (separatorsOf l) true l) + leafCount (separatorsOf l) ls)))))
+        rw (q, e, f, g, and-false (is x TooLong), and-false (is x ForeignByte), and-false (is x BadHeader))
 
     lines-from : (ls : List Text) → segmentLines [] (withoutLastCR t) ≡ ls → (a b c : Bool) → tooLong t ≡ a → all isMessageByte t ≡ b → isHeader (firstOf ls) ≡ c
         → Judges (messageRow t) (cond a (some TooLong) (cond (not b) (some ForeignByte) (cond (not c) (some BadHeader) (segmentsFault (separatorsOf (firstOf ls)) 0 0 ls))))

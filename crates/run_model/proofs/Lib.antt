@@ -1,11 +1,12 @@
 pub mod Computes
 pub mod InStep
+pub mod Learning
+pub mod Judged
+pub mod Booked
 pub mod TwoMessages
 pub mod Accepted
 pub mod Demand3
 pub mod Instances
-pub mod Judged
-pub mod Booked
 pub mod Acceptance
 pub mod Chains
 pub mod Sizes

@@ -13,21 +13,23 @@ use Rattle.er7.specs.declared.separators.Separators.{Separators}
 use Rattle.er7_redact.specs.Policy.{Rule}
 use Rattle.message_model.specs.Message.{Leaf, Label, Segment, Message, printSegments}
 use Rattle.policy_model.specs.Policy.{Policy}
-use Rattle.run_model.specs.Redact.{Row, Event, unnamedLeaf, unnamedEvents, overSegments, segmentsEvents, Book, running, stopped, bookAll, knownIn, afterRules, rulesEvents, forPosture, beforeSweep, eventsBeforeSweep, bookBeforeSweep, Redacted, done, refused, redactedAs, swept, redact}
-use Rattle.run_model.specs.Table.{rowsOf}
+use Rattle.run_model.specs.Redact.{Row, Event, unnamedLeaf, unnamedEvents, overSegments, segmentsEvents, Known, Book, running, stopped, knownBytes, bookAll, knownIn, afterRules, rulesEvents, forPosture, beforeSweep, eventsBeforeSweep, bookBeforeSweep, Redacted, done, refused, redactedAs, swept, redact}
+use Rattle.run_model.specs.Table.{rowsOf, overflows, exceeds}
 use Rattle.run_model.specs.Demand.{textAt, SettledAt, Learnt, NotInSegments, AlikeLeaves, AlikeSegments, Alike, Settled, Unswept}
-use Rattle.run_model.proofs.InStep.{SameShape, SameShapes, live, rows-append, Good, in-step, Rows, books-rows, AllKnown, learns-append, learns-of, books-known, still-segs, learns-segs, known-off}
+use Rattle.run_model.proofs.InStep.{SameShape, SameShapes, live, rows-append, Good, in-step}
+use Rattle.run_model.proofs.Learning.{AllKnown, Learns, learns-append, learns-of, learns-segs, still-segs}
+use Rattle.run_model.proofs.Booked.{known, BookIs, book-is, known-all-learnt}
 
 abbrev pub Accepted : Redacted → Type 0
 Accepted a = (t : Text) × (ρs : List Row) × (a ≡ done t ρs)
 
-twins-of : {rs : List Rule} {g : Label} {xs ys : List Leaf} → AlikeLeaves rs g xs ys → SameShape xs ys
-twins-of AlikeLeaves.end = SameShape.end
-twins-of (AlikeLeaves.next p t u h w) = live p false t u (twins-of w)
+leaves-shape : {rs : List Rule} {g : Label} {xs ys : List Leaf} → AlikeLeaves rs g xs ys → SameShape xs ys
+leaves-shape AlikeLeaves.end = SameShape.end
+leaves-shape (AlikeLeaves.next p t u h w) = live p false t u (leaves-shape w)
 
-twin-segs-of : {rs : List Rule} {a b : List Segment} → AlikeSegments rs a b → SameShapes a b
-twin-segs-of AlikeSegments.end = SameShapes.end
-twin-segs-of (AlikeSegments.next g w v) = SameShapes.next g (twins-of w) (twin-segs-of v)
+segments-shape : {rs : List Rule} {a b : List Segment} → AlikeSegments rs a b → SameShapes a b
+segments-shape AlikeSegments.end = SameShapes.end
+segments-shape (AlikeSegments.next g w v) = SameShapes.next g (leaves-shape w) (segments-shape v)
 
 differ : (x y : Option Text) → (x ≡ y) ⊎ (x ≡ y → ⊥)
 differ x y = elim (Option-discrete (List-discrete ℕ-discrete) x y) [ yes e ↦ inl e | no h ↦ inr h ]
@@ -43,19 +45,30 @@ module _ (key : ℕ) (P : Policy) (s : Separators) (cr : Bool) where
   abbrev SweepOk : List Segment → Type 0
   SweepOk ss = T (not (P .sweep)) ⊎ SweptNothing key P ss s
 
-  abbrev start : List Segment → Book
-  start ss = running [] [] (length (printSegments s cr ss))
+  abbrev Unfound : List Segment → Text → Type 0
+  Unfound ss v = NotInSegments s v (beforeSweep key s P ss)
 
-  run-known : (ss : List Segment) → SweepOk ss → AllKnown (λ v. NotInSegments s v (beforeSweep key s P ss)) (knownIn (bookBeforeSweep key s P cr ss))
-  unfolding bookBeforeSweep eventsBeforeSweep
-  run-known ss (inl off) = known-off (λ v. NotInSegments s v (beforeSweep key s P ss)) (P .sweep) off (eventsBeforeSweep key s P ss) (start ss) (unfold knownIn in tt)
-  run-known ss (inr q) =
-      let Q : Text → Type 0 = λ v. NotInSegments s v (beforeSweep key s P ss) in
-      books-known Q (P .sweep) (eventsBeforeSweep key s P ss) (start ss)
-      (learns-append Q (rulesEvents key s (P .rules) ss) (segmentsEvents (unnamedEvents key s (forPosture (P .posture))) (afterRules key s (P .rules) ss))
-      (learns-of Q (rulesEvents key s (P .rules) ss) (λ v a m. q v (a, m)))
-      (learns-segs key s Q (forPosture (P .posture)) (afterRules key s (P .rules) ss)))
-      (unfold knownIn in tt)
+  run-book : (ss : List Segment)
+      → BookIs (known (P .sweep) [] (eventsBeforeSweep key s P ss)) (rowsOf (eventsBeforeSweep key s P ss))
+      (overflows (length (printSegments s cr ss)) (eventsBeforeSweep key s P ss)) (bookBeforeSweep key s P cr ss)
+  unfolding bookBeforeSweep
+  run-book ss = book-is (P .sweep) (eventsBeforeSweep key s P ss) [] [] (length (printSegments s cr ss)) (unfold exceeds knownBytes in refl)
+
+  run-learns : (ss : List Segment) → SweptNothing key P ss s → Learns (Unfound ss) (eventsBeforeSweep key s P ss)
+  unfolding eventsBeforeSweep
+  run-learns ss q =
+      learns-append (Unfound ss) (rulesEvents key s (P .rules) ss) _ (learns-of (Unfound ss) (rulesEvents key s (P .rules) ss) (λ v a m. q v (a, m)))
+      (learns-segs key s (Unfound ss) (forPosture (P .posture)) (afterRules key s (P .rules) ss))
+
+  known-book : (Q : Text → Type 0) (L : List Known) (σ : List Row) (o : Bool) (B : Book) → BookIs L σ o B → AllKnown Q L → AllKnown Q (knownIn B)
+  unfolding knownIn
+  known-book Q L σ o (running ks ρs z) h k = rw (h .0) k
+  known-book Q L σ o (stopped e) h k = tt
+
+  run-known : (ss : List Segment) → SweepOk ss → AllKnown (Unfound ss) (knownIn (bookBeforeSweep key s P cr ss))
+  run-known ss ok =
+      known-book (Unfound ss) _ _ _ (bookBeforeSweep key s P cr ss) (run-book ss)
+      (known-all-learnt (Unfound ss) (eventsBeforeSweep key s P ss) (P .sweep) (⊎-elim inl (λ q. inr (run-learns ss q)) ok))
 
   -- with nothing swept the run is the book and the segments before the sweep
   run-is : (ss : List Segment) → SweepOk ss → whole-run ss ≡ redactedAs s cr (bookBeforeSweep key s P cr ss) (beforeSweep key s P ss)
@@ -64,18 +77,15 @@ module _ (key : ℕ) (P : Policy) (s : Separators) (cr : Bool) where
       let e = still-segs key s (knownIn (bookBeforeSweep key s P cr ss)) (beforeSweep key s P ss) (run-known ss ok) in
       ap₂ (λ (es : List Event) (zs : List Segment). redactedAs s cr (bookAll (P .sweep) es (bookBeforeSweep key s P cr ss)) zs) (e .1) (e .0)
 
-  run-rows : (ss : List Segment) → Rows (bookBeforeSweep key s P cr ss) (rowsOf (eventsBeforeSweep key s P ss))
-  unfolding bookBeforeSweep
-  run-rows ss = books-rows (P .sweep) (eventsBeforeSweep key s P ss) (start ss) [] refl
-
-  answer-is : (B : Book) (xs : List Row) (ss : List Segment) → Rows B xs → Accepted (redactedAs s cr B ss) → redactedAs s cr B ss ≡ done (printSegments s cr ss) xs
+  book-done : (L : List Known) (σ : List Row) (o : Bool) (B : Book) (ss : List Segment) → BookIs L σ o B → Accepted (redactedAs s cr B ss)
+      → redactedAs s cr B ss ≡ done (printSegments s cr ss) σ
   unfolding redactedAs
-  answer-is (running ks ρs z) xs ss h k = ap (done (printSegments s cr ss)) h
-  answer-is (stopped n) xs ss h k = let e : refused n ≡ done (k .0) (k .1) = k .2 in cc
+  book-done L σ o (running ks ρs z) ss h k = ap (done (printSegments s cr ss)) (h .1)
+  book-done L σ o (stopped n) ss h k = let e : refused n ≡ done (k .0) (k .1) = k .2 in cc
 
   run-done : (ss : List Segment) → SweepOk ss → Accepted (whole-run ss) → whole-run ss ≡ done (printSegments s cr (beforeSweep key s P ss)) (rowsOf (eventsBeforeSweep key s P ss))
   run-done ss ok acc =
-      run-is ss ok ∙ answer-is (bookBeforeSweep key s P cr ss) (rowsOf (eventsBeforeSweep key s P ss)) (beforeSweep key s P ss) (run-rows ss) (subst Accepted (run-is ss ok) acc)
+      run-is ss ok ∙ book-done _ _ _ (bookBeforeSweep key s P cr ss) (beforeSweep key s P ss) (run-book ss) (subst Accepted (run-is ss ok) acc)
 
   core : (a b : List Segment) → SameShapes a b → ((i j : ℕ) → Good key s (P .rules) a b i j)
       → SweepOk a → SweepOk b → Accepted (whole-run a) → Accepted (whole-run b) → whole-run a ≡ whole-run b
@@ -98,7 +108,7 @@ two-messages key P a b e alike settled quiet ka kb =
     let s : Separators = a .separators in
     let other : whole-run key P (b .separators) (b .lastCR) (b .segments) ≡ whole-run key P s (a .lastCR) (b .segments) =
     ap₂ (λ (z : Separators) (cr : Bool). whole-run key P z cr (b .segments)) (sym e) (sym (alike .lastCR)) in
-    core key P s (a .lastCR) (a .segments) (b .segments) (twin-segs-of (alike .segments))
+    core key P s (a .lastCR) (a .segments) (b .segments) (segments-shape (alike .segments))
     (λ i j. ⊎-elim inl (λ d. inr (subst (λ (z : Separators). SettledAt key s z (P .rules) (a .segments) (b .segments) i j) (sym e) (settled i j d)))
     (differ (textAt (a .segments) i j) (textAt (b .segments) i j)))
     (⊎-elim inl (λ q. inr (q .0)) quiet)
