@@ -14,7 +14,7 @@ ghost use mathlib.Core.Path.{_≡_};
 ghost use Prim.Native.Nat.{ℕ, _+_, _-_, _^_, _≤_, _<_};
 ghost use lib.ListN.{length, take, drop};
 ghost use Rattle.text.specs.Text.{Text, Wrote};
-ghost use Rattle.er7_redact.specs.Action.{verbWithArgument, verb, readCount, readMask, readArgument, readAction, printAction, replacement, asAction, ActionHeld, heldAction, argument, argumentAt, room, AppliedIs};
+ghost use Rattle.er7_redact.specs.Action.{verbWithArgument, verb, readCount, readMask, readArgument, readAction, printAction, replacement, asAction, ActionHeld, heldAction, argument, argumentAt, room, AppliedIs, isKeep, isNullAction};
 ghost use Rattle.er7_redact.specs.Inner.{CountFrom, heldBare, heldCounted, heldCount};
 ghost use Rattle.er7_redact.specs.Action as Spec;
 
@@ -58,6 +58,35 @@ pub enum Count {
 pub enum Applied {
     Written(usize),
     Nothing,
+}
+
+// The action a as a number, each of the eight by its own.
+pub fn kind(a: Action) -> u8
+    ensures { λ r. ⌜ ((t : Text) → r ≡ Spec.kind (asAction t a)) ⌝ }
+{
+    match a {
+        Action::Keep => 0,
+        Action::Clear => 1,
+        Action::Null => 2,
+        Action::Replace { start: _, len: _ } => 4,
+        Action::Mask(_) => 5,
+        Action::First(_) => 6,
+        Action::Last(_) => 7,
+        Action::Pseudonym => 3,
+    }
+}
+
+// Whether a is `keep`, and whether it is `null`.
+pub fn is_keep(a: Action) -> bool
+    ensures { λ r. ⌜ ((t : Text) → r ≡ isKeep (asAction t a)) ⌝ }
+{
+    kind(a) == 0
+}
+
+pub fn is_null(a: Action) -> bool
+    ensures { λ r. ⌜ ((t : Text) → r ≡ isNullAction (asAction t a)) ⌝ }
+{
+    kind(a) == 2
 }
 
 // Which action with an argument a word names.

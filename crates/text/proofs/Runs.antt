@@ -9,9 +9,9 @@ use native.Mathlib.Omega.{arith}
 use borrow.Author.Tests.{not-true}
 use lib.Dec.{eqb}
 use lib.ListN.{length, take, drop, getD, length-append, length-take, length-drop, drop-of-length-le}
-use lib.Seq.{drop-cons, take-all, take-suc, take-add, drop-at, drop-drop, getD-drop}
+use lib.Seq.{drop-cons, take-all, take-suc, take-take, take-add, drop-at, drop-drop, getD-drop}
 use Rattle.text.specs.declared.bytes.Class.the-variants.{AllBut}
-use Rattle.text.specs.Text.{Text, isIn, find, run, rest, part, RunEnd, all}
+use Rattle.text.specs.Text.{Text, isIn, find, run, rest, part, between, RunEnd, RunTo, all}
 use Rattle.text.proofs.Laws.{and-left, and-right, and-true, by-cond}
 
 -- the next byte of what is left
@@ -174,3 +174,34 @@ part-behind t s i k e h =
     let f : take k (drop i t) ++ take (length s - k) (drop k (drop i t)) ≡ s = sym (take-add k (length s - k) (drop i t)) ∙ rw (← n) e in
     let m : length (take k (drop i t)) ≡ k = simp length-take (omega (arith, simp length-take at l)) in
     rw (← drop-drop k i t) (sym (drop-at (take k (drop i t)) (take (length s - k) (drop k (drop i t))) k m) ∙ ap (drop k) f)
+
+-- ---- the text between two indices
+
+pub between-length : (s : Text) (i e : ℕ) → e ≤ length s → length (between s i e) ≡ e - i
+unfolding between
+between-length s i e h = simp length-take (simp length-drop (omega arith))
+
+-- what is left of it behind k bytes
+pub between-behind : (s : Text) (i e k : ℕ) → i + k ≤ e → e ≤ length s → between s (i + k) e ≡ drop k (between s i e)
+unfolding between
+between-behind s i e k h l =
+    let n : e - i ≡ k + (e - (i + k)) = omega arith in
+    let m : length (take k (drop i s)) ≡ k = simp length-take (simp length-drop (omega arith)) in
+    rw (n, take-add k (e - (i + k)) (drop i s), drop-at (take k (drop i s)) (take (e - (i + k)) (drop k (drop i s))) k m, drop-drop k i s)
+
+-- its first k bytes
+between-front : (s : Text) (i e k : ℕ) → k ≤ e - i → between s i (i + k) ≡ part (between s i e) 0 (k - 0)
+unfolding between part
+between-front s i e k h = let z : k - 0 ≡ k = omega arith in rw (add-sub-cancel-left i k, z) (sym (take-take k (e - i) (drop i s) h))
+
+-- a run in it, from its front on
+pub run-between : (p : ℕ → Bool) (s : Text) (i e r : ℕ) → i ≤ e → e ≤ length s → RunEnd p (between s i e) 0 r → RunTo p s i e (i + r)
+run-between p s i e r h l g =
+    let n = between-length s i e l in
+    let b : r ≤ e - i = omega (arith, g .high) in
+    record {
+      low = omega arith;
+      high = omega arith;
+      run-is = between-front s i e r b ∙ g .run-is;
+      rest-is = between-behind s i e r (omega arith) l ∙ g .rest-is;
+    }

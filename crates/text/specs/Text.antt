@@ -98,6 +98,10 @@ begins v s = same v (take (length v) s)
 unfoldable pub part : Text → ℕ → ℕ → Text
 part s i n = take n (drop i s)
 
+-- the bytes of s from index i to index e
+unfoldable pub between : Text → ℕ → ℕ → Text
+between s i e = take (e - i) (drop i s)
+
 -- ---- buffers
 
 -- d with s in the place of what stood from index at on
@@ -120,3 +124,10 @@ pub record RunEnd (p : ℕ → Bool) (s : Text) (i r : ℕ) : Type 0 where
   pub high : r ≤ length s
   pub run-is : part s i (r - i) ≡ run p (drop i s)
   pub rest-is : drop r s ≡ rest p (drop i s)
+
+-- r is where the run of p from index i on ends, in the text up to index e
+pub record RunTo (p : ℕ → Bool) (s : Text) (i e r : ℕ) : Type 0 where
+  pub low : i ≤ r
+  pub high : r ≤ e
+  pub run-is : between s i r ≡ run p (between s i e)
+  pub rest-is : between s r e ≡ rest p (between s i e)

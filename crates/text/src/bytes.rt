@@ -3,7 +3,7 @@ ghost use mathlib.Core.Path.{_≡_};
 ghost use mathlib.Core.List.{[], _∷_};
 ghost use Prim.Native.Nat.{_+_, _≤_, _<_};
 ghost use lib.ListN.{length, replicate};
-ghost use Rattle.text.specs.Text.{isIn, lowerByte, same, isWord, find, RunEnd, Wrote, zeroed};
+ghost use Rattle.text.specs.Text.{isIn, lowerByte, same, isWord, find, RunEnd, RunTo, Wrote, zeroed};
 
 // Sets of bytes: digits, letters and digits, blanks and tabs, all but these, all but one byte.
 pub enum Class {
@@ -52,6 +52,14 @@ pub fn run_end(s: &[u8], i: usize, class: Class) -> usize
         j += 1;
     }
     j
+}
+
+// Where the run of bytes of the class, from index i on, ends in the text up to index e.
+pub fn run_to(s: &[u8], i: usize, e: usize, class: Class) -> usize
+    requires { ⌜ (i ≤ e) × (e ≤ length (now s)) ⌝ }
+    ensures { λ r. ⌜ RunTo (isIn class) (now (s .entry)) i e r ⌝ }
+{
+    i + run_end(&s[i..e], 0, class)
 }
 
 // The index of the first b in s, or the length of s.

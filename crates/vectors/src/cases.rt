@@ -1,6 +1,10 @@
 // The cases: what each group computes from a line's fields.
+use super::groups::group_of;
 use super::lines::field;
 use super::lines::unescape;
+use super::numbers::number;
+use super::numbers::put_number;
+use super::policies::policy_answer;
 use er7::path;
 use er7::path::ParsedPath;
 use er7_redact::action;
@@ -24,32 +28,16 @@ ghost use lib.ListN.{length};
 
 // The hash of a, in hexadecimal.
 fn fnv(a: &[u8], got: &mut [u8]) -> usize
-    requires { ⌜ length (now got) ≡ 8192 ⌝ }
-    ensures { λ r. ⌜ r ≤ 8192 ⌝ }
+    requires { ⌜ length (now got) ≡ 49152 ⌝ }
+    ensures { λ r. ⌜ r ≤ 49152 ⌝ }
 {
     hexadecimal_at(got, 0, fold(OFFSET, a))
 }
 
-// The number at the front of a, 0 if there is none.
-fn number(a: &[u8]) -> u64 {
-    match number_at(a, 0) {
-        Number::At(n, _) => n,
-        Number::Refused => 0,
-    }
-}
-
-// Writes n to got from index at on, and returns the index behind it.
-fn put_number(got: &mut [u8], at: usize, n: u64) -> usize
-    requires { ⌜ at + 20 ≤ length (now got) ⌝ }
-    ensures { λ r. ⌜ r ≤ at + 20 ⌝ }
-{
-    decimal_at(got, at, n)
-}
-
 // The number at the front of a and the index behind it.
 fn decimal(a: &[u8], got: &mut [u8]) -> usize
-    requires { ⌜ length (now got) ≡ 8192 ⌝ }
-    ensures { λ r. ⌜ r ≤ 8192 ⌝ }
+    requires { ⌜ length (now got) ≡ 49152 ⌝ }
+    ensures { λ r. ⌜ r ≤ 49152 ⌝ }
 {
     match number_at(a, 0) {
         Number::At(n, end) => {
@@ -63,28 +51,28 @@ fn decimal(a: &[u8], got: &mut [u8]) -> usize
 
 // The number at the front of a, in hexadecimal.
 fn hexadecimal(a: &[u8], got: &mut [u8]) -> usize
-    requires { ⌜ length (now got) ≡ 8192 ⌝ }
-    ensures { λ r. ⌜ r ≤ 8192 ⌝ }
+    requires { ⌜ length (now got) ≡ 49152 ⌝ }
+    ensures { λ r. ⌜ r ≤ 49152 ⌝ }
 {
     hexadecimal_at(got, 0, number(a))
 }
 
 // The pseudonym of the value b under the key a.
 fn pseudonym_of(a: &[u8], b: &[u8], got: &mut [u8]) -> usize
-    requires { ⌜ length (now got) ≡ 8192 ⌝ }
-    ensures { λ r. ⌜ r ≤ 8192 ⌝ }
+    requires { ⌜ length (now got) ≡ 49152 ⌝ }
+    ensures { λ r. ⌜ r ≤ 49152 ⌝ }
 {
     pseudonym(number(a), b, got)
 }
 
 // The path a, read and printed.
 fn path(a: &[u8], got: &mut [u8]) -> usize
-    requires { ⌜ length (now got) ≡ 8192 ⌝ }
-    ensures { λ r. ⌜ r ≤ 8192 ⌝ }
+    requires { ⌜ length (now got) ≡ 49152 ⌝ }
+    ensures { λ r. ⌜ r ≤ 49152 ⌝ }
 {
     match path::parse(a, 0) {
         ParsedPath::Parsed(p) => {
-            if 8192 < path::printed_len(p, a) {
+            if 49152 < path::printed_len(p, a) {
                 return 0;
             }
             path::print(p, a, got, 0)
@@ -95,12 +83,12 @@ fn path(a: &[u8], got: &mut [u8]) -> usize
 
 // The action a, read and printed.
 fn action(a: &[u8], got: &mut [u8]) -> usize
-    requires { ⌜ length (now got) ≡ 8192 ⌝ }
-    ensures { λ r. ⌜ r ≤ 8192 ⌝ }
+    requires { ⌜ length (now got) ≡ 49152 ⌝ }
+    ensures { λ r. ⌜ r ≤ 49152 ⌝ }
 {
     match action::parse(a, 0) {
         ParsedAction::Parsed(p) => {
-            if 8192 < action::printed_len(p, a) {
+            if 49152 < action::printed_len(p, a) {
                 return 0;
             }
             action::print(p, a, got, 0)
@@ -111,8 +99,8 @@ fn action(a: &[u8], got: &mut [u8]) -> usize
 
 // What the action a makes of the value c under the key b.
 fn apply(a: &[u8], b: &[u8], c: &[u8], got: &mut [u8]) -> usize
-    requires { ⌜ (length (now got) ≡ 8192) × (length (now a) ≤ 4000) × (length (now c) ≤ 4000) ⌝ }
-    ensures { λ r. ⌜ r ≤ 8192 ⌝ }
+    requires { ⌜ (length (now got) ≡ 49152) × (length (now a) ≤ 8192) × (length (now c) ≤ 8192) ⌝ }
+    ensures { λ r. ⌜ r ≤ 49152 ⌝ }
 {
     match action::parse(a, 0) {
         ParsedAction::Parsed(p) => match action::apply(p, a, number(b), c, got) {
@@ -123,38 +111,10 @@ fn apply(a: &[u8], b: &[u8], c: &[u8], got: &mut [u8]) -> usize
     }
 }
 
-// A group's number.
-fn group_of(name: &[u8]) -> usize
-    ensures { λ r. ⌜ r ≤ 7 ⌝ }
-{
-    if same_bytes(name, b"fnv") {
-        return 0;
-    }
-    if same_bytes(name, b"pseudonym") {
-        return 1;
-    }
-    if same_bytes(name, b"decimal") {
-        return 2;
-    }
-    if same_bytes(name, b"hexadecimal") {
-        return 3;
-    }
-    if same_bytes(name, b"path") {
-        return 4;
-    }
-    if same_bytes(name, b"action") {
-        return 5;
-    }
-    if same_bytes(name, b"apply") {
-        return 6;
-    }
-    7
-}
-
-// What comes out of a case of the group.
-fn answer(group: usize, a: &[u8], b: &[u8], c: &[u8], got: &mut [u8]) -> usize
-    requires { ⌜ (length (now got) ≡ 8192) × (length (now a) ≤ 4000) × (length (now c) ≤ 4000) ⌝ }
-    ensures { λ r. ⌜ r ≤ 8192 ⌝ }
+// What comes out of a case of a group of texts, paths or actions.
+fn text_answer(group: usize, a: &[u8], b: &[u8], c: &[u8], got: &mut [u8]) -> usize
+    requires { ⌜ (length (now got) ≡ 49152) × (length (now a) ≤ 8192) × (length (now c) ≤ 8192) ⌝ }
+    ensures { λ r. ⌜ r ≤ 49152 ⌝ }
 {
     match group {
         0 => fnv(a, got),
@@ -163,9 +123,22 @@ fn answer(group: usize, a: &[u8], b: &[u8], c: &[u8], got: &mut [u8]) -> usize
         3 => hexadecimal(a, got),
         4 => path(a, got),
         5 => action(a, got),
-        6 => apply(a, b, c, got),
-        _ => copy_at(got, 0, b"unknown group"),
+        _ => apply(a, b, c, got),
     }
+}
+
+// What comes out of a case of the group.
+fn answer(group: usize, a: &[u8], b: &[u8], c: &[u8], got: &mut [u8]) -> usize
+    requires { ⌜ (length (now got) ≡ 49152) × (length (now a) ≤ 8192) × (length (now c) ≤ 8192) ⌝ }
+    ensures { λ r. ⌜ r ≤ 49152 ⌝ }
+{
+    if group < 7 {
+        return text_answer(group, a, b, c, got);
+    }
+    if group < 12 {
+        return policy_answer(group, a, b, c, got);
+    }
+    copy_at(got, 0, b"unknown group")
 }
 
 // Puts field k of the line, with its escapes read, at the front of out, and returns its length.
@@ -180,11 +153,11 @@ fn input(line: &[u8], k: usize, out: &mut [u8]) -> usize
 
 // Whether the case that a line states comes out as field 1 says.
 fn is_right(group: usize, line: &[u8]) -> bool {
-    let mut a = [0u8; 4000];
-    let mut b = [0u8; 4000];
-    let mut c = [0u8; 4000];
-    let mut want = [0u8; 8192];
-    let mut got = [0u8; 8192];
+    let mut a = [0u8; 8192];
+    let mut b = [0u8; 8192];
+    let mut c = [0u8; 8192];
+    let mut want = [0u8; 49152];
+    let mut got = [0u8; 49152];
     let n_want = input(line, 1, &mut want);
     let n_a = input(line, 2, &mut a);
     let n_b = input(line, 3, &mut b);
@@ -194,7 +167,7 @@ fn is_right(group: usize, line: &[u8]) -> bool {
 }
 
 // Runs the case that a line states, and counts it in its group's pair: how many were right, and how many there were.
-fn run_line(line: &[u8], tally: &mut [u64; 16]) {
+fn run_line(line: &[u8], tally: &mut [u64; 40]) {
     let name = field(line, 0);
     let end = name.end;
     let group = group_of(&line[0..end]);
@@ -209,7 +182,7 @@ fn add_one(n: u64) -> u64 {
 }
 
 // Runs every line that is not empty and does not begin with `#`.
-pub fn run(text: &[u8], tally: &mut [u64; 16]) {
+pub fn run(text: &[u8], tally: &mut [u64; 40]) {
     let mut i = 0;
     while i < text.len() {
         let end = run_end(text, i, Class::AllBut(b'\n'));

@@ -35,6 +35,10 @@ fn unescaped(b: u8) -> u8 {
         b't' => b'\t',
         b'n' => b'\n',
         b'r' => b'\r',
+        b'0' => 0,
+        b'u' => 0x1F,
+        b'd' => 0x7F,
+        b'h' => 0x80,
         _ => b,
     }
 }

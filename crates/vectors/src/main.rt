@@ -1,6 +1,9 @@
 // Runs the cases of data/vectors.txt and prints, for each group, how many came out right.
 mod cases;
+mod groups;
 mod lines;
+mod numbers;
+mod policies;
 mod report;
 
 use libc::STDOUT_FILENO;
@@ -19,7 +22,7 @@ fn load(buf: &mut [u8]) -> usize
 fn main() {
     let mut buf = [0u8; 262144];
     let n = load(&mut buf);
-    let mut tally = [0u64; 16];
+    let mut tally = [0u64; 40];
     cases::run(&buf[..n], &mut tally);
     report::print(STDOUT_FILENO, &tally);
 }

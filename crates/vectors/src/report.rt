@@ -1,5 +1,18 @@
 // The report: a line for each group, and one for all.
 
+// Writes the name of a group of policies.
+fn print_policy_name(fd: i32, group: usize) {
+    match group {
+        7 => io::write_all(fd, b"policy"),
+        8 => io::write_all(fd, b"append"),
+        9 => io::write_all(fd, b"builtin"),
+        10 => io::write_all(fd, b"padded"),
+        11 => io::write_all(fd, b"times"),
+        _ => io::write_all(fd, b"unknown"),
+    }
+    ;
+}
+
 // Writes a group's name.
 fn print_name(fd: i32, group: usize) {
     match group {
@@ -10,7 +23,7 @@ fn print_name(fd: i32, group: usize) {
         4 => io::write_all(fd, b"path"),
         5 => io::write_all(fd, b"action"),
         6 => io::write_all(fd, b"apply"),
-        _ => io::write_all(fd, b"unknown"),
+        _ => return print_policy_name(fd, group),
     }
     ;
 }
@@ -39,11 +52,11 @@ fn print_all(fd: i32, right: u64, all: u64) {
 }
 
 // Writes a line for each group that has cases, and one for all.
-pub fn print(fd: i32, tally: &[u64; 16]) {
+pub fn print(fd: i32, tally: &[u64; 40]) {
     let mut right = 0;
     let mut all = 0;
     let mut group = 0;
-    while group < 8 {
+    while group < 20 {
         let r = tally[group * 2];
         let n = tally[group * 2 + 1];
         if 0 < n {

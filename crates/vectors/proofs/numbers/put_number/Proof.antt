@@ -1,6 +1,6 @@
 use borrow.Author.Needs.{needs}
-use Rattle.vectors.proofs.cases.put_number.Statement.{statement}
-use Rattle.vectors.proofs.cases.put_number.Tie as tie
+use Rattle.vectors.proofs.numbers.put_number.Statement.{statement}
+use Rattle.vectors.proofs.numbers.put_number.Tie as tie
 use native.Mathlib.Omega.{arith}
 use Rattle.text.proofs.Decimals.{length-u64}
 

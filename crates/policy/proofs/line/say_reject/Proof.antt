@@ -1,0 +1,40 @@
+use native.Mathlib.Omega.{arith}
+use borrow.Author.Needs.{needs}
+use Rattle.policy.proofs.line.say_reject.Statement.{statement}
+use Rattle.policy.proofs.line.say_reject.Tie as tie
+use Rattle.policy.proofs.line.say_reject.Reads as reads
+use Rattle.policy.proofs.line.say_reject.Lts as lts
+use Rattle.policy.proofs.Lines.{reject-bare, reject-right, reject-wrong}
+
+returns : tie.Need-returns
+returns c = reject-bare _ _ _ (c .if1 .taken)
+
+action-at-requires : tie.Need-action-at-requires
+action-at-requires c κs = search needs
+
+enum-known-a : tie.Need-enum-known-a
+enum-known-a c = search needs
+
+rejecting-requires : tie.Need-rejecting-requires
+rejecting-requires c κs = search needs
+
+enum-told : tie.Need-enum-told
+enum-told c = search needs
+
+returns-2 : tie.Need-returns-2
+returns-2 c = reject-right _ _ _ (omega arith) (omega arith) (c .before .before .before .before .action-at .ensures) (c .before .before .a .given .1) (c .rejecting .ensures)
+
+returns-3 : tie.Need-returns-3
+returns-3 c = reject-wrong _ _ _ (omega arith) (omega arith) (c .before .before .action-at .ensures) (c .enum-told .given .1)
+
+pub say-reject-spec : {M : Type 1} → statement M
+say-reject-spec =
+    tie.close
+    (tie.spec
+    returns
+    action-at-requires
+    enum-known-a
+    rejecting-requires
+    enum-told
+    returns-2
+    returns-3)

@@ -1,0 +1,32 @@
+use native.Mathlib.Omega.{arith}
+use borrow.Author.Needs.{needs}
+use Rattle.policy.proofs.line.say_rule.Statement.{statement}
+use Rattle.policy.proofs.line.say_rule.Tie as tie
+use Rattle.policy.proofs.line.say_rule.Reads as reads
+use Rattle.policy.proofs.line.say_rule.Lts as lts
+use mathlib.Core.Path.{subst}
+use Rattle.policy.specs.Line.{ParsedActionHeld}
+use Rattle.policy.proofs.Lines.{rule-right, rule-wrong}
+
+action-at-requires : tie.Need-action-at-requires
+action-at-requires c κs = search needs
+
+enum-known-a : tie.Need-enum-known-a
+enum-known-a c = search needs
+
+with-path-requires : tie.Need-with-path-requires
+with-path-requires c κs = (omega arith, omega arith, subst (ParsedActionHeld (c .before .before .before .before .before .args .text .now)) (c .before .a .given .1) (c .before .before .before .action-at .ensures .held))
+
+enum-told : tie.Need-enum-told
+enum-told c = search needs
+
+returns : tie.Need-returns
+returns c = rule-wrong _ _ _ (c .before .before .action-at .ensures) (c .enum-told .given .1)
+
+returns-2 : tie.Need-returns-2
+returns-2 c = rule-right _ _ _ (c .before .before .before .before .action-at .ensures) (c .before .before .a .given .1) (c .with-path .ensures)
+
+pub say-rule-spec : {M : Type 1} → statement M
+say-rule-spec =
+    tie.close
+    (tie.spec action-at-requires enum-known-a with-path-requires enum-told returns returns-2)
