@@ -2,9 +2,11 @@
 use super::groups::group_of;
 use super::lines::field;
 use super::lines::unescape;
-use super::numbers::number;
-use super::numbers::put_number;
+use super::messages::message_answer;
+use super::parts::number;
+use super::parts::put_number;
 use super::policies::policy_answer;
+use super::values::value_answer;
 use er7::path;
 use er7::path::ParsedPath;
 use er7_redact::action;
@@ -128,8 +130,8 @@ fn text_answer(group: usize, a: &[u8], b: &[u8], c: &[u8], got: &mut [u8]) -> us
 }
 
 // What comes out of a case of the group.
-fn answer(group: usize, a: &[u8], b: &[u8], c: &[u8], got: &mut [u8]) -> usize
-    requires { ⌜ (length (now got) ≡ 49152) × (length (now a) ≤ 8192) × (length (now c) ≤ 8192) ⌝ }
+fn answer(group: usize, a: &[u8], b: &[u8], c: &[u8], d: &[u8], got: &mut [u8]) -> usize
+    requires { ⌜ (length (now got) ≡ 49152) × (length (now a) ≤ 8192) × (length (now b) ≤ 8192) × (length (now c) ≤ 8192) ⌝ }
     ensures { λ r. ⌜ r ≤ 49152 ⌝ }
 {
     if group < 7 {
@@ -137,6 +139,12 @@ fn answer(group: usize, a: &[u8], b: &[u8], c: &[u8], got: &mut [u8]) -> usize
     }
     if group < 12 {
         return policy_answer(group, a, b, c, got);
+    }
+    if group < 16 {
+        return value_answer(group, a, b, got);
+    }
+    if group < 18 {
+        return message_answer(group, a, b, c, d, got);
     }
     copy_at(got, 0, b"unknown group")
 }
@@ -151,18 +159,36 @@ fn input(line: &[u8], k: usize, out: &mut [u8]) -> usize
     unescape(&line[start..end], out)
 }
 
-// Whether the case that a line states comes out as field 1 says.
-fn is_right(group: usize, line: &[u8]) -> bool {
+// What comes out of the case that a line states, whose fields 2 and 3 are a and b.
+fn outcome_with(group: usize, a: &[u8], b: &[u8], line: &[u8], got: &mut [u8]) -> usize
+    requires { ⌜ (length (now got) ≡ 49152) × (length (now a) ≤ 8192) × (length (now b) ≤ 8192) ⌝ }
+    ensures { λ r. ⌜ r ≤ 49152 ⌝ }
+{
+    let mut c = [0u8; 8192];
+    let mut d = [0u8; 8192];
+    let n_c = input(line, 4, &mut c);
+    let n_d = input(line, 5, &mut d);
+    answer(group, a, b, &c[0..n_c], &d[0..n_d], got)
+}
+
+// What comes out of the case that a line states.
+fn outcome(group: usize, line: &[u8], got: &mut [u8]) -> usize
+    requires { ⌜ length (now got) ≡ 49152 ⌝ }
+    ensures { λ r. ⌜ r ≤ 49152 ⌝ }
+{
     let mut a = [0u8; 8192];
     let mut b = [0u8; 8192];
-    let mut c = [0u8; 8192];
+    let n_a = input(line, 2, &mut a);
+    let n_b = input(line, 3, &mut b);
+    outcome_with(group, &a[0..n_a], &b[0..n_b], line, got)
+}
+
+// Whether the case that a line states comes out as field 1 says.
+fn is_right(group: usize, line: &[u8]) -> bool {
     let mut want = [0u8; 49152];
     let mut got = [0u8; 49152];
     let n_want = input(line, 1, &mut want);
-    let n_a = input(line, 2, &mut a);
-    let n_b = input(line, 3, &mut b);
-    let n_c = input(line, 4, &mut c);
-    let n = answer(group, &a[0..n_a], &b[0..n_b], &c[0..n_c], &mut got);
+    let n = outcome(group, line, &mut got);
     same_bytes(&got[0..n], &want[0..n_want])
 }
 

@@ -2,7 +2,39 @@
 use text::bytes::same_bytes;
 ghost use Prim.Native.Nat.{_≤_};
 
-// The number of a group of policies; 19 for an unknown one.
+// The number of a group of messages; 19 for an unknown one.
+fn message_group(name: &[u8]) -> usize
+    ensures { λ r. ⌜ r ≤ 19 ⌝ }
+{
+    if same_bytes(name, b"word") {
+        return 15;
+    }
+    if same_bytes(name, b"leaves") {
+        return 16;
+    }
+    if same_bytes(name, b"repeated") {
+        return 17;
+    }
+    19
+}
+
+// The number of a group of values or messages.
+fn value_group(name: &[u8]) -> usize
+    ensures { λ r. ⌜ r ≤ 19 ⌝ }
+{
+    if same_bytes(name, b"decode") {
+        return 12;
+    }
+    if same_bytes(name, b"encode") {
+        return 13;
+    }
+    if same_bytes(name, b"lower") {
+        return 14;
+    }
+    message_group(name)
+}
+
+// The number of a group of policies, values or messages.
 fn policy_group(name: &[u8]) -> usize
     ensures { λ r. ⌜ r ≤ 19 ⌝ }
 {
@@ -21,10 +53,10 @@ fn policy_group(name: &[u8]) -> usize
     if same_bytes(name, b"times") {
         return 11;
     }
-    19
+    value_group(name)
 }
 
-// The number of a group of paths, actions or policies.
+// The number of a group that is none of numbers.
 fn action_group(name: &[u8]) -> usize
     ensures { λ r. ⌜ r ≤ 19 ⌝ }
 {

@@ -2,9 +2,11 @@
 mod cases;
 mod groups;
 mod lines;
-mod numbers;
+mod messages;
+mod parts;
 mod policies;
 mod report;
+mod values;
 
 use libc::STDOUT_FILENO;
 ghost use Rattle.io.specs.Counts.{Counts};

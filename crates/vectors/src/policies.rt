@@ -1,6 +1,11 @@
 // The cases of policies: read, merged or built in, and printed.
-use super::numbers::number;
-use super::numbers::put_number;
+use super::parts::at_most;
+use super::parts::number;
+use super::parts::put_number;
+use super::parts::put_part;
+use super::parts::put_refused;
+use super::parts::put_sum;
+use super::parts::put_times;
 use er7_redact::pseudonym::OFFSET;
 use er7_redact::pseudonym::fold;
 use policy_print::builtin::builtin;
@@ -8,12 +13,10 @@ use policy_print::print::Printed;
 use policy_print::print::append;
 use policy_print::print::print_text;
 use refusal::Refusal;
-use text::bytes::byte_at;
 use text::bytes::copy_at;
 use text::bytes::fill_at;
-use text::positional::hexadecimal_at;
 ghost use mathlib.Core.Path.{_≡_};
-ghost use Prim.Native.Nat.{_+_, _≤_};
+ghost use Prim.Native.Nat.{_≤_};
 ghost use lib.ListN.{length};
 
 // A refusal's number and line.
@@ -21,17 +24,9 @@ fn refused(why: Refusal, line: usize, got: &mut [u8]) -> usize
     requires { ⌜ length (now got) ≡ 49152 ⌝ }
     ensures { λ r. ⌜ r ≤ 49152 ⌝ }
 {
-    let k = copy_at(got, 0, b"refused ");
-    let j = put_number(got, k, refusal::number(why) as u64);
+    let j = put_refused(why, got);
     let e = copy_at(got, j, b" line ");
     put_number(got, e, line as u64)
-}
-
-// The length n, where it does not pass the buffer.
-fn clipped(n: usize) -> usize
-    ensures { λ r. ⌜ r ≤ 49152 ⌝ }
-{
-    if n < 49152 { n } else { 49152 }
 }
 
 // The length of what was printed to got, or the refusal written there.
@@ -40,7 +35,7 @@ fn answered(printed: Printed, got: &mut [u8]) -> usize
     ensures { λ r. ⌜ r ≤ 49152 ⌝ }
 {
     match printed {
-        Printed::Written(n) => clipped(n),
+        Printed::Written(n) => at_most(n, 49152),
         Printed::Refused(why, line) => refused(why, line, got),
     }
 }
@@ -98,40 +93,13 @@ fn padded(a: &[u8], b: &[u8], got: &mut [u8]) -> usize
     policy_of(&text[0..n], got)
 }
 
-// Writes a to out from index at on, if it fits, and returns the index behind it.
-fn put_part(a: &[u8], out: &mut [u8], at: usize) -> usize
-    requires { ⌜ (length (now out) ≡ 40000) × (at ≤ 40000) ⌝ }
-    ensures { λ r. ⌜ r ≤ 40000 ⌝ }
-{
-    if 40000 - at < a.len() {
-        return at;
-    }
-    copy_at(out, at, a)
-}
-
-// Writes n times a to the front of out, as far as it fits, and returns the length.
-fn repeat(a: &[u8], n: u64, out: &mut [u8]) -> usize
-    requires { ⌜ length (now out) ≡ 40000 ⌝ }
-    ensures { λ r. ⌜ r ≤ 40000 ⌝ }
-{
-    let mut k = 0;
-    let mut left = n;
-    while 0 < left {
-        k = put_part(a, out, k);
-        left -= 1;
-    }
-    k
-}
-
 // The length n and the hash of the first n bytes of got, in their place.
 fn sum(n: usize, got: &mut [u8]) -> usize
     requires { ⌜ (length (now got) ≡ 49152) × (n ≤ 49152) ⌝ }
     ensures { λ r. ⌜ r ≤ 49152 ⌝ }
 {
     let hash = fold(OFFSET, &got[0..n]);
-    let k = put_number(got, 0, n as u64);
-    let j = byte_at(got, k, b' ');
-    hexadecimal_at(got, j, hash)
+    put_sum(n, hash, got)
 }
 
 // The length and the hash of what was printed to got, or the refusal.
@@ -140,7 +108,7 @@ fn summed(printed: Printed, got: &mut [u8]) -> usize
     ensures { λ r. ⌜ r ≤ 49152 ⌝ }
 {
     match printed {
-        Printed::Written(n) => sum(clipped(n), got),
+        Printed::Written(n) => sum(at_most(n, 49152), got),
         Printed::Refused(why, line) => refused(why, line, got),
     }
 }
@@ -151,7 +119,7 @@ fn times(a: &[u8], b: &[u8], c: &[u8], got: &mut [u8]) -> usize
     ensures { λ r. ⌜ r ≤ 49152 ⌝ }
 {
     let mut text = [0u8; 40000];
-    let k = repeat(a, number(b), &mut text);
+    let k = put_times(a, number(b), &mut text, 0);
     let n = put_part(c, &mut text, k);
     let printed = print_text(&text[0..n], got);
     summed(printed, got)

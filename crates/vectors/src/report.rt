@@ -1,6 +1,20 @@
 // The report: a line for each group, and one for all.
 
-// Writes the name of a group of policies.
+// Writes the name of a group of values or messages.
+fn print_value_name(fd: i32, group: usize) {
+    match group {
+        12 => io::write_all(fd, b"decode"),
+        13 => io::write_all(fd, b"encode"),
+        14 => io::write_all(fd, b"lower"),
+        15 => io::write_all(fd, b"word"),
+        16 => io::write_all(fd, b"leaves"),
+        17 => io::write_all(fd, b"repeated"),
+        _ => io::write_all(fd, b"unknown"),
+    }
+    ;
+}
+
+// Writes the name of a group of policies, values or messages.
 fn print_policy_name(fd: i32, group: usize) {
     match group {
         7 => io::write_all(fd, b"policy"),
@@ -8,7 +22,7 @@ fn print_policy_name(fd: i32, group: usize) {
         9 => io::write_all(fd, b"builtin"),
         10 => io::write_all(fd, b"padded"),
         11 => io::write_all(fd, b"times"),
-        _ => io::write_all(fd, b"unknown"),
+        _ => return print_value_name(fd, group),
     }
     ;
 }

@@ -1,0 +1,75 @@
+use Rattle.er7_message.proofs.message.parse.Statement.{statement}
+use Rattle.er7_message.proofs.message.parse.Tie as tie
+use borrow.Author.Needs.{needs}
+use native.Mathlib.Omega.{arith}
+use borrow.Author.Tests.{not-true, not-false}
+use Rattle.er7_message.proofs.Parsing.{message-long, message-foreign, cr-long, message-ended, message-open}
+
+returns : tie.Need-returns
+returns c = message-long _ (omega arith) _ _ _
+
+are-message-bytes-requires : tie.Need-are-message-bytes-requires
+are-message-bytes-requires c κs = search needs
+
+returns-2 : tie.Need-returns-2
+returns-2 c = message-foreign _ (omega arith) (c .before .are-message-bytes .ensures) (not-true _ (c .if2 .taken)) _ _ _
+
+ends-in-cr-requires : tie.Need-ends-in-cr-requires
+ends-in-cr-requires c κs = search needs
+
+sub-n : tie.Need-sub-n
+sub-n c = cr-long _ (c .before .ends-in-cr .ensures) (c .if3 .taken)
+
+sub-parse-lines : tie.Need-sub-parse-lines
+sub-parse-lines c = search needs
+
+part-parse-lines-start : tie.Need-part-parse-lines-start
+part-parse-lines-start c = search needs
+
+part-parse-lines-end : tie.Need-part-parse-lines-end
+part-parse-lines-end c = search needs
+
+parse-lines-requires : tie.Need-parse-lines-requires
+parse-lines-requires c κs = search needs
+
+same-length : tie.Need-same-length
+same-length c = search needs
+
+same-length-2 : tie.Need-same-length-2
+same-length-2 c = search needs
+
+returns-3 : tie.Need-returns-3
+returns-3 c = message-ended (c .before .before .before .before .before .before .before .before .before .before .before .before .before .before .before .before .args .text .now) (omega arith) (c .before .before .before .before .before .before .before .before .before .before .before .are-message-bytes .ensures) (not-false _ (c .before .before .before .before .before .before .before .before .before .before .if2 .left)) (c .before .before .before .before .before .before .before .before .before .ends-in-cr .ensures) (c .before .before .before .before .before .before .before .before .if3 .taken) (c .before .before .before .before .parse-lines .ensures)
+
+parse-lines-requires-2 : tie.Need-parse-lines-requires-2
+parse-lines-requires-2 c κs = search needs
+
+same-length-3 : tie.Need-same-length-3
+same-length-3 c = search needs
+
+same-length-4 : tie.Need-same-length-4
+same-length-4 c = search needs
+
+returns-4 : tie.Need-returns-4
+returns-4 c = message-open _ (omega arith) (c .before .before .before .before .before .before .before .before .before .before .are-message-bytes .ensures) (not-false _ (c .before .before .before .before .before .before .before .before .before .if2 .left)) (c .before .before .before .before .before .before .before .before .ends-in-cr .ensures) (c .before .before .before .before .before .before .before .if3 .left) (c .before .before .before .before .parse-lines2 .ensures)
+
+pub parse-spec : {M : Type 1} → statement M
+parse-spec =
+    tie.close
+    (tie.spec
+    returns
+    are-message-bytes-requires
+    returns-2
+    ends-in-cr-requires
+    sub-n
+    sub-parse-lines
+    part-parse-lines-start
+    part-parse-lines-end
+    parse-lines-requires
+    same-length
+    same-length-2
+    returns-3
+    parse-lines-requires-2
+    same-length-3
+    same-length-4
+    returns-4)

@@ -1,0 +1,54 @@
+use Rattle.er7_message.proofs.message.read_header.Statement.{statement}
+use Rattle.er7_message.proofs.message.read_header.Tie as tie
+use borrow.Author.Needs.{needs}
+use native.Mathlib.Omega.{arith}
+use Rattle.er7_message.proofs.Segments.{put-at, header-crowded, header-fits}
+
+at-field-requires : tie.Need-at-field-requires
+at-field-requires c κs = search needs
+
+put-leaf-requires : tie.Need-put-leaf-requires
+put-leaf-requires c κs = search needs
+
+at-field-requires-2 : tie.Need-at-field-requires-2
+at-field-requires-2 c κs = search needs
+
+put-leaf-requires-2 : tie.Need-put-leaf-requires-2
+put-leaf-requires-2 c κs = search needs
+
+read-behind-requires : tie.Need-read-behind-requires
+read-behind-requires c κs = search needs
+
+same-length : tie.Need-same-length
+same-length c = search needs
+
+returns : tie.Need-returns
+returns c = header-crowded _ _ _ (c .before .before .before .before .before .before .before .before .before .before .before .before .before .before .before .before .before .before .pre .0) (c .before .before .before .before .before .before .before .before .before .before .before .before .before .before .before .before .before .before .pre .1) (c .before .before .before .before .before .before .before .before .before .before .before .before .before .before .before .before .before .before .pre .2) (c .before .before .before .before .before .before .before .before .before .before .before .before .before .before .before .before .before .before .pre .3) (put-at 1 (c .before .before .before .before .before .before .before .before .before .before .before .before .before .at-field .ensures) (c .before .before .before .before .before .before .before .before .before .before .before .before .put-leaf .ensures)) (put-at 2 (c .before .before .before .before .before .before .before .before .at-field2 .ensures) (c .before .before .before .before .before .before .before .put-leaf2 .ensures)) (c .before .before .before .read-behind .ensures) _ _ (omega arith)
+
+put-segment-requires : tie.Need-put-segment-requires
+put-segment-requires c κs = search needs
+
+same-length-2 : tie.Need-same-length-2
+same-length-2 c = search needs
+
+same-length-3 : tie.Need-same-length-3
+same-length-3 c = search needs
+
+returns-2 : tie.Need-returns-2
+returns-2 c = header-fits _ _ _ (c .before .before .before .before .before .before .before .before .before .before .before .before .before .before .before .before .before .before .before .before .before .before .pre .0) (c .before .before .before .before .before .before .before .before .before .before .before .before .before .before .before .before .before .before .before .before .before .before .pre .1) (c .before .before .before .before .before .before .before .before .before .before .before .before .before .before .before .before .before .before .before .before .before .before .pre .2) (c .before .before .before .before .before .before .before .before .before .before .before .before .before .before .before .before .before .before .before .before .before .before .pre .3) (put-at 1 (c .before .before .before .before .before .before .before .before .before .before .before .before .before .before .before .before .before .at-field .ensures) (c .before .before .before .before .before .before .before .before .before .before .before .before .before .before .before .before .put-leaf .ensures)) (put-at 2 (c .before .before .before .before .before .before .before .before .before .before .before .before .at-field2 .ensures) (c .before .before .before .before .before .before .before .before .before .before .before .put-leaf2 .ensures)) (c .before .before .before .before .before .before .before .read-behind .ensures) (omega arith) (c .before .before .put-segment .ensures)
+
+pub read-header-spec : {M : Type 1} → statement M
+read-header-spec =
+    tie.close
+    (tie.spec
+    at-field-requires
+    put-leaf-requires
+    at-field-requires-2
+    put-leaf-requires-2
+    read-behind-requires
+    same-length
+    returns
+    put-segment-requires
+    same-length-2
+    same-length-3
+    returns-2)

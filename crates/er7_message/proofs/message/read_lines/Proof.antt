@@ -1,0 +1,58 @@
+use Rattle.er7_message.proofs.message.read_lines.Statement.{statement}
+use Rattle.er7_message.proofs.message.read_lines.Tie as tie
+use borrow.Author.Needs.{needs}
+use native.Mathlib.Omega.{arith}
+use Rattle.er7_message.proofs.Reading.{header-crowded, header-on, header-done}
+
+read-header-requires : tie.Need-read-header-requires
+read-header-requires c κs = (c .before .before .before .before .before .pre .0 .long, c .before .before .before .before .before .pre .0 .end .high, c .before .before .before .before .before .pre .0 .header, c .before .before .before .before .before .pre .0 .named, search needs, search needs)
+
+same-length : tie.Need-same-length
+same-length c = search needs
+
+same-length-2 : tie.Need-same-length-2
+same-length-2 c = search needs
+
+returns : tie.Need-returns
+returns c = header-crowded (c .before .before .before .before .before .before .before .before .before .before .before .pre .0 .end) (c .before .before .before .before .before .read-header .ensures) (c .before .before .before .before .before .before .before .before .before .before .before .pre .1) (c .before .before .before .before .before .before .before .before .before .before .before .pre .2) (omega arith) _ _ _
+
+same-length-3 : tie.Need-same-length-3
+same-length-3 c = search needs
+
+same-length-4 : tie.Need-same-length-4
+same-length-4 c = search needs
+
+returns-2 : tie.Need-returns-2
+returns-2 c = header-done (c .before .before .before .before .before .before .before .before .before .before .before .before .pre .0 .end) (c .before .before .before .before .before .before .read-header .ensures) (c .before .before .before .before .before .before .before .before .before .before .before .before .pre .1) (c .before .before .before .before .before .before .before .before .before .before .before .before .pre .2) (omega arith) (search needs) (search needs) (c .if2 .taken) _
+
+add-read-rest : tie.Need-add-read-rest
+add-read-rest c = search needs
+
+read-rest-requires : tie.Need-read-rest-requires
+read-rest-requires c κs = (omega (arith, c .before .before .before .before .before .before .before .before .before .before .before .before .before .before .pre .0 .end .high, c .before .before .if2 .left), header-on (c .before .before .before .before .before .before .before .before .before .before .before .before .before .before .pre .0 .end) (c .before .before .before .before .before .before .before .before .read-header .ensures) (c .before .before .before .before .before .before .before .before .before .before .before .before .before .before .pre .1) (c .before .before .before .before .before .before .before .before .before .before .before .before .before .before .pre .2) (omega arith) (search needs) (search needs) (omega (arith, c .before .before .before .before .before .before .before .before .before .before .before .before .before .before .pre .0 .end .high, c .before .before .if2 .left)))
+
+same-length-5 : tie.Need-same-length-5
+same-length-5 c = search needs
+
+same-length-6 : tie.Need-same-length-6
+same-length-6 c = search needs
+
+returns-3 : tie.Need-returns-3
+returns-3 c = search needs
+
+pub read-lines-spec : {M : Type 1} → statement M
+read-lines-spec =
+    tie.close
+    (tie.spec
+    read-header-requires
+    same-length
+    same-length-2
+    returns
+    same-length-3
+    same-length-4
+    returns-2
+    add-read-rest
+    read-rest-requires
+    same-length-5
+    same-length-6
+    returns-3)

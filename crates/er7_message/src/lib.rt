@@ -1,0 +1,3 @@
+// Reads a message into its two tables.
+pub mod message;
+pub mod separators;

@@ -1,0 +1,4 @@
+pub mod Laws
+pub mod PrintBack
+pub mod Slots
+pub mod Packing

@@ -1,0 +1,77 @@
+use borrow.Author.Needs.{needs}
+use Rattle.er7_render.proofs.render.put_segment.Statement.{statement}
+use Rattle.er7_render.proofs.render.put_segment.Tie as tie
+use Rattle.er7_table.specs.Table.{cell, firstLeaf}
+use Rattle.er7_render.proofs.Laws.{next-first, segment-leaves, name-room, inside-room, ending-room, segment-wrote}
+
+mul-row : tie.Need-mul-row
+mul-row c = search needs
+
+add-first : tie.Need-add-first
+add-first c = search needs
+
+mul-first : tie.Need-mul-first
+mul-first c = search needs
+
+shared-slice-read-first : tie.Need-shared-slice-read-first
+shared-slice-read-first c = search needs
+
+add-header : tie.Need-add-header
+add-header c = search needs
+
+mul-header : tie.Need-mul-header
+mul-header c = search needs
+
+shared-slice-read-header : tie.Need-shared-slice-read-header
+shared-slice-read-header c = search needs
+
+add-end : tie.Need-add-end
+add-end c = search needs
+
+mul-end : tie.Need-mul-end
+mul-end c = search needs
+
+shared-slice-read-end : tie.Need-shared-slice-read-end
+shared-slice-read-end c = search needs
+
+put-name-requires : tie.Need-put-name-requires
+put-name-requires c κs = (search needs, c .before .before .before .before .before .before .before .before .pre .0 .name, name-room _ _ _ _ _ _ _ _ (c .before .before .before .before .before .before .before .before .pre .1))
+
+put-leaves-requires : tie.Need-put-leaves-requires
+unfolding firstLeaf cell
+put-leaves-requires c κs = (rw (next-first (c .before .before .before .before .before .before .before .before .before .before .before .before .args .segs .now) (c .before .before .before .before .before .before .before .before .before .before .before .before .args .k)) (c .before .before .before .before .before .before .before .before .before .before .before .before .pre .0 .order), segment-leaves (c .before .before .before .before .before .before .before .before .before .before .before .before .pre .0) (next-first (c .before .before .before .before .before .before .before .before .before .before .before .before .args .segs .now) (c .before .before .before .before .before .before .before .before .before .before .before .before .args .k)), inside-room _ _ _ _ _ _ _ (c .before .before .before .put-name .ensures) (next-first (c .before .before .before .before .before .before .before .before .before .before .before .before .args .segs .now) (c .before .before .before .before .before .before .before .before .before .before .before .before .args .k)) (c .before .before .before .before .before .before .before .before .before .before .before .before .pre .1))
+
+add-put-cr : tie.Need-add-put-cr
+add-put-cr c = search needs
+
+put-cr-requires : tie.Need-put-cr-requires
+unfolding firstLeaf cell
+put-cr-requires c κs = ending-room _ _ _ _ _ _ _ (c .before .before .before .before .before .before .before .before .before .put-name .ensures) (next-first (c .before .before .before .before .before .before .before .before .before .before .before .before .before .before .before .before .before .before .args .segs .now) (c .before .before .before .before .before .before .before .before .before .before .before .before .before .before .before .before .before .before .args .k)) (c .before .before .before .before .before .put-leaves .ensures) (c .before .before .before .before .before .before .before .before .before .before .before .before .before .before .before .before .before .before .pre .1)
+
+same-length : tie.Need-same-length
+same-length c = search needs
+
+returns : tie.Need-returns
+unfolding firstLeaf cell
+returns c = segment-wrote _ _ _ _ _ _ _ (c .before .before .before .before .before .before .before .before .before .before .before .before .put-name .ensures) (next-first (c .before .before .before .before .before .before .before .before .before .before .before .before .before .before .before .before .before .before .before .before .before .args .segs .now) (c .before .before .before .before .before .before .before .before .before .before .before .before .before .before .before .before .before .before .before .before .before .args .k)) (c .before .before .before .before .before .before .before .before .put-leaves .ensures) (c .before .before .put-cr .ensures)
+
+pub put-segment-spec : {M : Type 1} → statement M
+put-segment-spec =
+    tie.close
+    (tie.spec
+    mul-row
+    add-first
+    mul-first
+    shared-slice-read-first
+    add-header
+    mul-header
+    shared-slice-read-header
+    add-end
+    mul-end
+    shared-slice-read-end
+    put-name-requires
+    put-leaves-requires
+    add-put-cr
+    put-cr-requires
+    same-length
+    returns)

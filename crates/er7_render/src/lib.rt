@@ -1,0 +1,3 @@
+// Changes and prints a message that stands in its two tables.
+pub mod render;
+pub mod store;

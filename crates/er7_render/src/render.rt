@@ -1,0 +1,179 @@
+// Printing a message: each leaf behind its delimiter, each segment behind its name.
+use er7::message::Place;
+use er7::separators::Separators;
+use er7_message::message::Counts;
+use text::bytes::byte_at;
+use text::bytes::copy_at;
+ghost use mathlib.Core.Path.{_≡_};
+ghost use Prim.Native.Nat.{_+_, _-_, _*_, _≤_};
+ghost use lib.ListN.{length};
+ghost use Rattle.text.specs.Text.{Wrote};
+ghost use Rattle.message_model.specs.Message.{delimiter, lead};
+ghost use Rattle.er7_table.specs.Table.{placeAt, nameAt, Good, Segmented};
+ghost use Rattle.er7_render.specs.Rendered.{rendered, BytesNamed, AllNamed};
+ghost use Rattle.er7_render.specs.Inner.{headed, ending, InStore, InTables, leafText, leavesText, segmentText};
+
+// The delimiter before a leaf at p.
+pub fn delimiter_of(s: Separators, p: Place) -> u8
+    ensures { λ r. ⌜ r ≡ delimiter s p ⌝ }
+{
+    if p.subcomponent != 1 {
+        return s.subcomponent;
+    }
+    if p.component != 1 {
+        return s.component;
+    }
+    if p.repetition != 1 {
+        return s.repetition;
+    }
+    s.field
+}
+
+// The place of leaf i.
+pub fn place_at(cells: &[usize], i: usize) -> Place
+    requires { ⌜ i * 8 + 8 ≤ length (now cells) ⌝ }
+    ensures { λ r. ⌜ r ≡ placeAt (now (cells .entry)) i ⌝ }
+{
+    let at = i * 8;
+    Place {
+        field: cells[at + 4],
+        repetition: cells[at + 5],
+        component: cells[at + 6],
+        subcomponent: cells[at + 7],
+    }
+}
+
+// Writes what stands before a leaf at p to out from index at on: its delimiter, and nothing before MSH-1 and MSH-2. Returns the index behind it.
+fn put_lead(s: Separators, header: bool, p: Place, out: &mut [u8], at: usize) -> usize
+    requires { ⌜ at + length (lead s (headed header) p) ≤ length (now out) ⌝ }
+    ensures { λ r. ⌜ Wrote (now (out .entry)) at (lead s (headed header) p) (now (out .exit)) r ⌝ }
+{
+    if header & (p.field <= 2) {
+        return at;
+    }
+    byte_at(out, at, delimiter_of(s, p))
+}
+
+// Writes leaf i and what stands before it to out from index at on, and nothing if the leaf has vanished. Returns the index behind it.
+fn put_leaf(
+    s: Separators,
+    header: bool,
+    cells: &[usize],
+    i: usize,
+    store: &[u8],
+    out: &mut [u8],
+    at: usize,
+) -> usize
+    requires { ⌜ InStore (now cells) (now store) i × (at + length (leafText s header (now cells) (now store) i) ≤ length (now out)) ⌝ }
+    ensures { λ r. ⌜ Wrote (now (out .entry)) at (leafText s header (now (cells .entry)) (now (store .entry)) i) (now (out .exit)) r ⌝ }
+{
+    let row = i * 8;
+    if cells[row + 3] != 0 {
+        return at;
+    }
+    let start = cells[row + 1];
+    let end = start + cells[row + 2];
+    let p = place_at(cells, i);
+    let k = put_lead(s, header, p, out, at);
+    copy_at(out, k, &store[start..end])
+}
+
+// Writes the leaves from leaf first to before leaf end to out from index at on, and returns the index behind them.
+fn put_leaves(
+    s: Separators,
+    header: bool,
+    cells: &[usize],
+    first: usize,
+    end: usize,
+    store: &[u8],
+    out: &mut [u8],
+    at: usize,
+) -> usize
+    requires { ⌜ (first ≤ end) × Good (now cells) (now store) end (length (now store)) × (at + length (leavesText s header (now cells) (now store) first (end - first)) ≤ length (now out)) ⌝ }
+    ensures { λ r. ⌜ Wrote (now (out .entry)) at (leavesText s header (now (cells .entry)) (now (store .entry)) first (end - first)) (now (out .exit)) r ⌝ }
+{
+    let mut i = first;
+    let mut k = at;
+    while i < end {
+        k = put_leaf(s, header, cells, i, store, out, k);
+        i += 1;
+    }
+    k
+}
+
+// Writes the name of segment k to out from index at on, and returns the index behind it.
+fn put_name(segs: &[usize], k: usize, out: &mut [u8], at: usize) -> usize
+    requires { ⌜ (k * 8 + 8 ≤ length (now segs)) × BytesNamed (now segs) k × (at + 3 ≤ length (now out)) ⌝ }
+    ensures { λ r. ⌜ Wrote (now (out .entry)) at (nameAt (now (segs .entry)) k) (now (out .exit)) r ⌝ }
+{
+    let row = k * 8;
+    let a = segs[row + 2] as u8;
+    let b = segs[row + 3] as u8;
+    let c = segs[row + 4] as u8;
+    let second = byte_at(out, at, a);
+    let third = byte_at(out, second, b);
+    byte_at(out, third, c)
+}
+
+// Writes a CR to out at index at if it is wanted, and returns the index behind it.
+fn put_cr(wanted: bool, out: &mut [u8], at: usize) -> usize
+    requires { ⌜ at + length (ending wanted) ≤ length (now out) ⌝ }
+    ensures { λ r. ⌜ Wrote (now (out .entry)) at (ending wanted) (now (out .exit)) r ⌝ }
+{
+    if wanted {
+        return byte_at(out, at, 13);
+    }
+    at
+}
+
+// Writes segment k to out from index at on, and returns the index behind it; a CR ends it, the last one only if the message ended so.
+fn put_segment(
+    counts: Counts,
+    k: usize,
+    segs: &[usize],
+    cells: &[usize],
+    store: &[u8],
+    out: &mut [u8],
+    at: usize,
+) -> usize
+    requires { ⌜ InTables (now segs) (now cells) (now store) k × (at + length (segmentText (counts .separators) (counts .«last_cr») (now segs) (now cells) (now store) (counts .segments) k) ≤ length (now out)) ⌝ }
+    ensures { λ r. ⌜ Wrote (now (out .entry)) at (segmentText (counts .separators) (counts .«last_cr») (now (segs .entry)) (now (cells .entry)) (now (store .entry)) (counts .segments) k) (now (out .exit)) r ⌝ }
+{
+    let row = k * 8;
+    let first = segs[row + 1];
+    let header = segs[row + 6] != 0;
+    let end = segs[row + 9];
+    let named = put_name(segs, k, out, at);
+    let printed = put_leaves(
+        counts.separators,
+        header,
+        cells,
+        first,
+        end,
+        store,
+        out,
+        named,
+    );
+    put_cr((k + 1 != counts.segments) | counts.last_cr, out, printed)
+}
+
+// Writes the message in the tables to the front of out, and returns its length.
+pub fn render(
+    segs: &[usize],
+    cells: &[usize],
+    store: &[u8],
+    counts: Counts,
+    out: &mut [u8],
+) -> usize
+    requires { ⌜ Segmented (now segs) (counts .segments) (counts .leaves) × AllNamed (now segs) (counts .segments) × Good (now cells) (now store) (counts .leaves) (length (now store)) ⌝ }
+    requires { ⌜ length (rendered counts (now segs) (now cells) (now store)) ≤ length (now out) ⌝ }
+    ensures { λ r. ⌜ Wrote (now (out .entry)) 0 (rendered counts (now (segs .entry)) (now (cells .entry)) (now (store .entry))) (now (out .exit)) r ⌝ }
+{
+    let mut at = 0;
+    let mut k = 0;
+    while k < counts.segments {
+        at = put_segment(counts, k, segs, cells, store, out, at);
+        k += 1;
+    }
+    at
+}

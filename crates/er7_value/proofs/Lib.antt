@@ -1,0 +1,4 @@
+pub mod Decoding
+pub mod Encoding
+pub mod Lowering
+pub mod Hits

@@ -1,0 +1,3 @@
+// Which leaves a rule reaches, and the rows of the report.
+pub mod reach;
+pub mod report;
