@@ -55,7 +55,7 @@ pub fn put_row(report: &mut [u8], g: Label, p: Place, a: Action, text: &[u8]) ->
 // Writes a row to report behind the len bytes already there, if it has room, and returns the length with the row in any case.
 pub fn row_at(report: &mut [u8], len: usize, g: Label, p: Place, a: Action, text: &[u8]) -> usize
     requires { ⌜ ActionHeld (now text) a × (len + length (now text) + 138 < 2 ^ 64) ⌝ }
-    ensures { λ r. ⌜ RowAt (now (report .entry)) len (printRow (row (asLabel g) p (asAction (now (text .entry)) a))) (now (report .exit)) r ⌝ }
+    ensures { λ r. ⌜ RowAt (now (report .entry)) len (printRow (row (asLabel g) p (asAction (now (text .entry)) a))) (now (report .exit)) r × (r ≤ len + length (now (text .entry)) + 138) ⌝ }
 {
     let end = len + row_len(g, p, a, text);
     if report.len() < end {

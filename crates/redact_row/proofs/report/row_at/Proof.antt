@@ -11,7 +11,7 @@ add-end : tie.Need-add-end
 add-end c = search needs
 
 returns : tie.Need-returns
-returns c = row-full _ _ _ (c .before .row-len .ensures .0) (omega arith)
+returns c = (row-full _ _ _ (c .before .row-len .ensures .0) (omega arith), omega (arith, c .before .row-len .ensures .1))
 
 sub-put-row : tie.Need-sub-put-row
 sub-put-row c = search needs
@@ -29,7 +29,7 @@ same-length : tie.Need-same-length
 same-length c = search needs
 
 returns-2 : tie.Need-returns-2
-returns-2 c = row-room _ _ _ (c .before .before .before .before .before .row-len .ensures .0) (omega arith) (put-part _ _ _ _ (omega arith) (c .before .before .put-row .ensures))
+returns-2 c = (row-room _ _ _ (c .before .before .before .before .before .row-len .ensures .0) (omega arith) (put-part _ _ _ _ (omega arith) (c .before .before .put-row .ensures)), omega (arith, c .before .before .before .before .before .row-len .ensures .1))
 
 pub row-at-spec : {M : Type 1} → statement M
 row-at-spec =

@@ -1,0 +1,78 @@
+use borrow.Author.Needs.{needs}
+use Rattle.redact_act.proofs.act.act.Statement.{statement}
+use Rattle.redact_act.proofs.act.act.Tie as tie
+use Rattle.redact_act.proofs.act.act.Reads as reads
+use Rattle.redact_act.proofs.act.act.Lts as lts
+use mathlib.Core.Path.{sym, _∙_, ap}
+use Rattle.text.proofs.Runs.{part-slice}
+use Rattle.message_model.specs.Value.{isEmptyOrNull}
+use Rattle.redact_act.proofs.Acts.{acted-as, acted-stays, act-null, act-empty, act-value}
+
+is-null-requires : tie.Need-is-null-requires
+is-null-requires c κs = search needs
+
+act-null-requires : tie.Need-act-null-requires
+act-null-requires c κs = search needs
+
+same-length : tie.Need-same-length
+same-length c = search needs
+
+returns : tie.Need-returns
+returns c = acted-as (act-null _ _ _ _ (sym (c .before .before .before .before .before .is-null .ensures _) ∙ c .before .before .before .before .if1 .taken)) (c .before .before .act-null .ensures)
+
+add-end : tie.Need-add-end
+add-end c = search needs
+
+sub-is-empty-or-null : tie.Need-sub-is-empty-or-null
+sub-is-empty-or-null c = search needs
+
+part-is-empty-or-null-start : tie.Need-part-is-empty-or-null-start
+part-is-empty-or-null-start c = search needs
+
+part-is-empty-or-null-end : tie.Need-part-is-empty-or-null-end
+part-is-empty-or-null-end c = search needs
+
+is-empty-or-null-requires : tie.Need-is-empty-or-null-requires
+is-empty-or-null-requires c κs = search needs
+
+same-length-2 : tie.Need-same-length-2
+same-length-2 c = search needs
+
+returns-2 : tie.Need-returns-2
+returns-2 c = acted-stays _ _ _ _ (act-empty _ _ _ _ (sym (c .before .before .before .before .before .is-null .ensures _) ∙ c .before .before .before .before .if1 .left) (ap isEmptyOrNull (sym (part-slice _ _ _)) ∙ sym (c .before .is-empty-or-null .ensures) ∙ c .if2 .taken))
+
+act-value-requires : tie.Need-act-value-requires
+act-value-requires c κs = search needs
+
+same-length-3 : tie.Need-same-length-3
+same-length-3 c = search needs
+
+same-length-4 : tie.Need-same-length-4
+same-length-4 c = search needs
+
+same-length-5 : tie.Need-same-length-5
+same-length-5 c = search needs
+
+returns-3 : tie.Need-returns-3
+returns-3 c = acted-as (act-value _ _ _ _ (sym (c .before .before .before .before .before .before .before .before .before .before .before .before .before .before .before .is-null .ensures _) ∙ c .before .before .before .before .before .before .before .before .before .before .before .before .before .before .if1 .left) (ap isEmptyOrNull (sym (part-slice _ _ _)) ∙ sym (c .before .before .before .before .before .before .before .before .before .before .before .is-empty-or-null .ensures) ∙ c .before .before .before .before .before .before .before .before .before .before .if2 .left)) (c .before .before .before .before .before .before .act-value .ensures)
+
+pub act-spec : {M : Type 1} → statement M
+act-spec =
+    tie.close
+    (tie.spec
+    is-null-requires
+    act-null-requires
+    same-length
+    returns
+    add-end
+    sub-is-empty-or-null
+    part-is-empty-or-null-start
+    part-is-empty-or-null-end
+    is-empty-or-null-requires
+    same-length-2
+    returns-2
+    act-value-requires
+    same-length-3
+    same-length-4
+    same-length-5
+    returns-3)

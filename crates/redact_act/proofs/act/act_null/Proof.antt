@@ -1,0 +1,54 @@
+use borrow.Author.Needs.{needs}
+use Rattle.redact_act.proofs.act.act_null.Statement.{statement}
+use Rattle.redact_act.proofs.act.act_null.Tie as tie
+use Rattle.redact_act.proofs.act.act_null.Reads as reads
+use Rattle.redact_act.proofs.act.act_null.Lts as lts
+use mathlib.Core.Path.{sym, _∙_, ap}
+use Rattle.text.proofs.Runs.{part-slice}
+use Rattle.message_model.specs.Value.{isNull}
+use Rattle.redact_act.proofs.Acts.{acted-as, acted-stays, nulled-null, nulled-other}
+
+add-end : tie.Need-add-end
+add-end c = search needs
+
+sub-is-null : tie.Need-sub-is-null
+sub-is-null c = search needs
+
+part-is-null-start : tie.Need-part-is-null-start
+part-is-null-start c = search needs
+
+part-is-null-end : tie.Need-part-is-null-end
+part-is-null-end c = search needs
+
+is-null-requires : tie.Need-is-null-requires
+is-null-requires c κs = search needs
+
+same-length : tie.Need-same-length
+same-length c = search needs
+
+returns : tie.Need-returns
+returns c = acted-stays _ _ _ _ (nulled-null _ (ap isNull (sym (part-slice _ _ _)) ∙ sym (c .before .is-null .ensures) ∙ c .if1 .taken))
+
+put-null-requires : tie.Need-put-null-requires
+put-null-requires c κs = search needs
+
+same-length-2 : tie.Need-same-length-2
+same-length-2 c = search needs
+
+returns-2 : tie.Need-returns-2
+returns-2 c = acted-as (nulled-other _ (ap isNull (sym (part-slice _ _ _)) ∙ sym (c .before .before .before .before .before .is-null .ensures) ∙ c .before .before .before .before .if1 .left)) (c .before .before .put-null .ensures)
+
+pub act-null-spec : {M : Type 1} → statement M
+act-null-spec =
+    tie.close
+    (tie.spec
+    add-end
+    sub-is-null
+    part-is-null-start
+    part-is-null-end
+    is-null-requires
+    same-length
+    returns
+    put-null-requires
+    same-length-2
+    returns-2)

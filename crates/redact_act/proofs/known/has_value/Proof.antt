@@ -1,0 +1,65 @@
+use borrow.Author.Needs.{needs}
+use Rattle.redact_act.proofs.known.has_value.Statement.{statement}
+use Rattle.redact_act.proofs.known.has_value.Tie as tie
+use Rattle.redact_act.proofs.known.has_value.Reads as reads
+use Rattle.redact_act.proofs.known.has_value.Lts as lts
+use Rattle.redact_act.specs.Known.{valueAt}
+use Rattle.redact_act.proofs.Knowing.{word-of-part}
+
+mul-row : tie.Need-mul-row
+mul-row c = search needs
+
+add-start : tie.Need-add-start
+add-start c = search needs
+
+mul-start : tie.Need-mul-start
+mul-start c = search needs
+
+shared-slice-read-start : tie.Need-shared-slice-read-start
+shared-slice-read-start c = search needs
+
+add-end : tie.Need-add-end
+add-end c = search needs
+
+mul-end : tie.Need-mul-end
+mul-end c = search needs
+
+shared-slice-read-end : tie.Need-shared-slice-read-end
+shared-slice-read-end c = search needs
+
+add-end-2 : tie.Need-add-end-2
+add-end-2 c = search needs
+
+sub-is-whole-word : tie.Need-sub-is-whole-word
+sub-is-whole-word c = search needs
+
+part-is-whole-word-start : tie.Need-part-is-whole-word-start
+part-is-whole-word-start c = search needs
+
+part-is-whole-word-end : tie.Need-part-is-whole-word-end
+part-is-whole-word-end c = search needs
+
+is-whole-word-requires : tie.Need-is-whole-word-requires
+is-whole-word-requires c κs = search needs
+
+returns : tie.Need-returns
+unfolding valueAt
+returns c = word-of-part _ _ _ _ (c .is-whole-word .ensures)
+
+pub has-value-spec : {M : Type 1} → statement M
+has-value-spec =
+    tie.close
+    (tie.spec
+    mul-row
+    add-start
+    mul-start
+    shared-slice-read-start
+    add-end
+    mul-end
+    shared-slice-read-end
+    add-end-2
+    sub-is-whole-word
+    part-is-whole-word-start
+    part-is-whole-word-end
+    is-whole-word-requires
+    returns)

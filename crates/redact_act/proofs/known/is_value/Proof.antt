@@ -1,0 +1,67 @@
+use borrow.Author.Needs.{needs}
+use Rattle.redact_act.proofs.known.is_value.Statement.{statement}
+use Rattle.redact_act.proofs.known.is_value.Tie as tie
+use Rattle.redact_act.proofs.known.is_value.Reads as reads
+use Rattle.redact_act.proofs.known.is_value.Lts as lts
+use mathlib.Core.Path.{ap, _∙_}
+use Rattle.text.specs.Text.{same}
+use Rattle.text.proofs.Runs.{part-slice}
+use Rattle.redact_act.specs.Known.{valueAt}
+
+mul-row : tie.Need-mul-row
+mul-row c = search needs
+
+add-start : tie.Need-add-start
+add-start c = search needs
+
+mul-start : tie.Need-mul-start
+mul-start c = search needs
+
+shared-slice-read-start : tie.Need-shared-slice-read-start
+shared-slice-read-start c = search needs
+
+add-end : tie.Need-add-end
+add-end c = search needs
+
+mul-end : tie.Need-mul-end
+mul-end c = search needs
+
+shared-slice-read-end : tie.Need-shared-slice-read-end
+shared-slice-read-end c = search needs
+
+add-end-2 : tie.Need-add-end-2
+add-end-2 c = search needs
+
+sub-same-bytes : tie.Need-sub-same-bytes
+sub-same-bytes c = search needs
+
+part-same-bytes-start : tie.Need-part-same-bytes-start
+part-same-bytes-start c = search needs
+
+part-same-bytes-end : tie.Need-part-same-bytes-end
+part-same-bytes-end c = search needs
+
+same-bytes-requires : tie.Need-same-bytes-requires
+same-bytes-requires c κs = search needs
+
+returns : tie.Need-returns
+unfolding valueAt
+returns c = c .same-bytes .ensures ∙ ap (same _) (part-slice _ _ _)
+
+pub is-value-spec : {M : Type 1} → statement M
+is-value-spec =
+    tie.close
+    (tie.spec
+    mul-row
+    add-start
+    mul-start
+    shared-slice-read-start
+    add-end
+    mul-end
+    shared-slice-read-end
+    add-end-2
+    sub-same-bytes
+    part-same-bytes-start
+    part-same-bytes-end
+    same-bytes-requires
+    returns)

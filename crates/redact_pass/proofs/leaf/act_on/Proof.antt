@@ -1,0 +1,124 @@
+use native.Mathlib.Omega.{arith}
+use borrow.Author.Needs.{needs}
+use Rattle.redact_pass.proofs.leaf.act_on.Statement.{statement}
+use Rattle.redact_pass.proofs.leaf.act_on.Tie as tie
+use Rattle.redact_pass.proofs.leaf.act_on.Reads as reads
+use Rattle.redact_pass.proofs.leaf.act_on.Lts as lts
+use Rattle.er7_table.specs.Table.{cell}
+use Rattle.run_model.proofs.InStep.{act-gone}
+use Rattle.redact_pass.specs.State.{textOf}
+use Rattle.redact_pass.proofs.Acting.{leaf-held, acted-stays, acted-long, acted-becomes, becomes-most}
+
+mul-at : tie.Need-mul-at
+mul-at c = search needs
+
+add-start : tie.Need-add-start
+add-start c = search needs
+
+mul-start : tie.Need-mul-start
+mul-start c = search needs
+
+slice-read-start : tie.Need-slice-read-start
+slice-read-start c = search needs
+
+add-len : tie.Need-add-len
+add-len c = search needs
+
+mul-len : tie.Need-mul-len
+mul-len c = search needs
+
+slice-read-len : tie.Need-slice-read-len
+slice-read-len c = search needs
+
+act-requires : tie.Need-act-requires
+unfolding cell
+act-requires c κs = (c .before .before .before .before .before .before .before .before .before .before .before .pre .0, c .before .before .before .before .before .before .before .before .before .before .before .pre .1, leaf-held (c .before .before .before .before .before .before .before .before .before .before .before .pre .2), c .before .before .before .before .before .before .before .before .before .before .before .pre .4, c .before .before .before .before .before .before .before .before .before .before .before .pre .5)
+
+enum-told : tie.Need-enum-told
+enum-told c = search needs
+
+enum-known-came : tie.Need-enum-known-came
+enum-known-came c = search needs
+
+enter-requires : tie.Need-enter-requires
+unfolding cell
+enter-requires c κs = let k = becomes-most (c .before .before .before .before .before .before .before .before .before .before .before .before .before .before .before .before .before .before .before .before .before .before .before .pre .2) _ (c .before .before .before .before .before .before .before .before .before .before .before .act .ensures) (c .before .before .before .came .given .1) in (c .before .before .before .before .before .before .before .before .before .before .before .before .before .before .before .before .before .before .before .before .before .before .before .pre .0, omega (arith, c .before .before .before .before .before .before .before .before .before .before .before .before .before .before .before .before .before .before .before .before .before .before .before .pre .2 .good .rows, c .before .before .before .before .before .before .before .before .before .before .before .before .before .before .before .before .before .before .before .before .before .before .before .pre .2 .inside), c .before .before .before .before .before .before .before .before .before .before .before .before .before .before .before .before .before .before .before .before .before .before .before .pre .2 .within, omega (arith, k, c .before .before .before .before .before .before .before .before .before .before .before .before .before .before .before .before .before .before .before .before .before .before .before .pre .2 .most), omega (arith, k, c .before .before .before .before .before .before .before .before .before .before .before .before .before .before .before .before .before .before .before .before .before .before .before .pre .2 .low), omega (arith, c .before .before .before .before .before .before .before .before .before .before .before .before .before .before .before .before .before .before .before .before .before .before .before .pre .2 .rows), omega (arith, c .before .before .before .before .before .before .before .before .before .before .before .before .before .before .before .before .before .before .before .before .before .before .before .pre .2 .report), c .before .before .before .before .before .before .before .before .before .before .before .before .before .before .before .before .before .before .before .before .before .before .before .pre .3)
+
+enum-told-2 : tie.Need-enum-told-2
+enum-told-2 c = search needs
+
+same-length : tie.Need-same-length
+same-length c = search needs
+
+same-length-2 : tie.Need-same-length-2
+same-length-2 c = search needs
+
+same-length-3 : tie.Need-same-length-3
+same-length-3 c = search needs
+
+returns : tie.Need-returns
+unfolding cell textOf
+returns c = acted-stays (c .before .before .before .before .before .before .before .before .before .before .before .before .before .before .before .before .before .before .before .before .pre .2) _ _ _ (act-gone _ _ _ _) (c .before .before .before .before .before .before .before .before .act .ensures) (c .enum-told .given .1)
+
+same-length-4 : tie.Need-same-length-4
+same-length-4 c = search needs
+
+same-length-5 : tie.Need-same-length-5
+same-length-5 c = search needs
+
+same-length-6 : tie.Need-same-length-6
+same-length-6 c = search needs
+
+same-length-7 : tie.Need-same-length-7
+same-length-7 c = search needs
+
+same-length-8 : tie.Need-same-length-8
+same-length-8 c = search needs
+
+returns-2 : tie.Need-returns-2
+unfolding cell textOf
+returns-2 c = acted-becomes (c .before .before .before .before .before .before .before .before .before .before .before .before .before .before .before .before .before .before .before .before .before .before .before .before .before .before .before .before .pre .2) _ _ _ (c .before .before .before .before .before .before .before .before .before .before .before .before .before .before .before .before .act .ensures) (c .before .before .before .before .before .before .before .before .came .given .1) (c .before .before .before .before .enter .ensures)
+
+same-length-9 : tie.Need-same-length-9
+same-length-9 c = search needs
+
+same-length-10 : tie.Need-same-length-10
+same-length-10 c = search needs
+
+same-length-11 : tie.Need-same-length-11
+same-length-11 c = search needs
+
+returns-3 : tie.Need-returns-3
+unfolding cell textOf
+returns-3 c = acted-long (c .before .before .before .before .before .before .before .before .before .before .before .before .before .before .before .before .before .before .before .before .pre .2) _ _ _ (c .before .before .before .before .before .before .before .before .act .ensures) (c .enum-told2 .given .1)
+
+pub act-on-spec : {M : Type 1} → statement M
+act-on-spec =
+    tie.close
+    (tie.spec
+    mul-at
+    add-start
+    mul-start
+    slice-read-start
+    add-len
+    mul-len
+    slice-read-len
+    act-requires
+    enum-told
+    enum-known-came
+    enter-requires
+    enum-told-2
+    same-length
+    same-length-2
+    same-length-3
+    returns
+    same-length-4
+    same-length-5
+    same-length-6
+    same-length-7
+    same-length-8
+    returns-2
+    same-length-9
+    same-length-10
+    same-length-11
+    returns-3)

@@ -1,0 +1,104 @@
+-- What a run's counters and buffers stand for. Assumes nothing: these are definitions.
+use mathlib.Core.Path.{_≡_}
+use mathlib.Core.Bool.{Bool}
+use mathlib.Core.List.{List}
+use Prim.Native.Nat.{ℕ, _+_, _-_, _*_, _≤_, _<_, _^_}
+use lib.ListN.{length}
+use Rattle.text.specs.Text.{Text, part}
+use Rattle.run_model.specs.Redact.{Fate, after, Row, changing, Known, Book, running, stopped, bookAll, printRow}
+use Rattle.er7_table.specs.Table.{cell, placeAt, textAt, Good}
+use Rattle.er7_render.specs.Stored.{TextSet, liveLen, liveSum}
+use Rattle.redact_row.specs.Report.{RowAt, Reported}
+use Rattle.redact_pass.specs.declared.leaf.Counters.{Counters}
+use Rattle.redact_pass.specs.declared.leaf.Done.{Done}
+use Rattle.redact_pass.specs.declared.leaf.Done.the-variants.{Going, Stopped}
+
+-- the report, the counters and the values ks that are known stand for the book b
+pub record Booked (ks : List Known) (report : Text) (c : Counters) (b : Book) : Type 0 where
+  pub rows : List Row
+  pub is : b ≡ running ks rows (c .size)
+  pub count : c .rows ≡ length rows
+  pub reported : Reported report (c .«report_len») rows
+
+-- the text of leaf i, if it has not vanished
+unfoldable pub textOf : List ℕ → Text → ℕ → Text
+textOf cells store i = part store (cell cells i 1) (cell cells i 2)
+
+-- the store has room for a new text of leaf i of n
+pub record Ready (cells : List ℕ) (store : Text) (n i : ℕ) (c : Counters) : Type 0 where
+  pub inside : i < n
+  pub good : Good cells store n (c .used)
+  pub within : cell cells i 3 ≡ 0 → cell cells i 2 ≤ c .size
+  pub most : c .size ≤ 49152
+  pub ample : c .used + 49152 ≤ length store
+  pub low : c .used ≤ 2 ^ 32
+  pub rows : c .rows ≤ 2 ^ 32
+  pub report : c .«report_len» ≤ 2 ^ 48
+
+-- .. and the leaf has not vanished
+pub record Roomy (cells : List ℕ) (store : Text) (n i : ℕ) (c : Counters) : Type 0 where
+  pub inside : i < n
+  pub good : Good cells store n (c .used)
+  pub live : cell cells i 3 ≡ 0
+  pub within : cell cells i 2 ≤ c .size
+  pub most : c .size ≤ 49152
+  pub ample : c .used + 49152 ≤ length store
+  pub low : c .used ≤ 2 ^ 32
+  pub rows : c .rows ≤ 2 ^ 32
+  pub report : c .«report_len» ≤ 2 ^ 48
+
+-- leaf i, of which `went` bytes went and `came` bytes came, was entered in the table and in the report
+pub record Entered (ρ : Row) (i went came : ℕ) (cells : List ℕ) (report : Text) (c : Counters) (cells′ : List ℕ) (report′ : Text) (c′ : Counters) : Type 0 where
+  pub set : TextSet cells i (c .used) came cells′
+  pub row : RowAt report (c .«report_len») (printRow ρ) report′ (c′ .«report_len»)
+  pub row-most : c′ .«report_len» ≤ c .«report_len» + 65536
+  pub rows : c′ .rows ≡ c .rows + 1
+  pub size : c′ .size ≡ c .size - went + came
+  pub used : c′ .used ≡ c .used + came
+  pub known : c′ .known ≡ c .known
+  pub known-used : c′ .«known_used» ≡ c .«known_used»
+
+-- leaf i of n had the fate F, with the row ρ
+pub record Changed (F : Fate) (ρ : Row) (n i : ℕ) (cells : List ℕ) (store report : Text) (c : Counters)
+    (cells′ : List ℕ) (store′ report′ : Text) (c′ : Counters) : Type 0 where
+  pub good : Good cells′ store′ n (c′ .used)
+  pub here : textAt cells′ store′ i ≡ after F (textOf cells store i)
+  pub other : (j : ℕ) → j < n → (j ≡ i → ⊥) → textAt cells′ store′ j ≡ textAt cells store j
+  pub place : (j : ℕ) → placeAt cells′ j ≡ placeAt cells j
+  pub lens : (j : ℕ) → (j ≡ i → ⊥) → liveLen cells′ j ≡ liveLen cells j
+  pub cells-long : length cells′ ≡ length cells
+  pub store-long : length store′ ≡ length store
+  pub report-long : length report′ ≡ length report
+  pub paid : c′ .used + c .size ≤ c .used + c′ .size + cell cells i 2
+  pub grows : c .used ≤ c′ .used
+  pub known : c′ .known ≡ c .known
+  pub known-used : c′ .«known_used» ≡ c .«known_used»
+  pub rows : c′ .rows ≤ c .rows + 1
+  pub report-most : c′ .«report_len» ≤ c .«report_len» + 65536
+  pub size-most : c′ .size ≤ 49152
+  pub book : (sweep : Bool) (ks : List Known) (b : Book) → Booked ks report c b → Booked ks report′ c′ (bookAll sweep (changing ρ (cell cells i 2) F) b)
+
+abbrev pub Outcome : Fate → Row → ℕ → ℕ → List ℕ → Text → Text → Counters → List ℕ → Text → Text → Done → Type 0
+Outcome F ρ n i cells store report c cells′ store′ report′ (Going c′) = Changed F ρ n i cells store report c cells′ store′ report′ c′
+Outcome F ρ n i cells store report c cells′ store′ report′ (Stopped e) =
+    (sweep : Bool) (ks : List Known) (b : Book) → Booked ks report c b → bookAll sweep (changing ρ (cell cells i 2) F) b ≡ stopped e
+
+pub record ActedOn (F : Fate) (ρ : Row) (n i : ℕ) (cells : List ℕ) (store report : Text) (c : Counters)
+    (cells′ : List ℕ) (store′ report′ : Text) (r : Done) : Type 0 where
+  pub out : Outcome F ρ n i cells store report c cells′ store′ report′ r
+
+-- ---- before leaf i in a pass over n leaves
+
+-- what the pass has written, from `used₀` on, and the texts ahead together are no more than the message's size; the report's rows are few
+pub record Funded (cells : List ℕ) (i n used₀ rows : ℕ) (c : Counters) : Type 0 where
+  pub since : used₀ ≤ c .used
+  pub sum : c .used + liveSum cells i (n - i) ≤ used₀ + c .size
+  pub most : c .size ≤ 49152
+  pub few : c .rows ≤ rows
+  pub report : c .«report_len» ≤ rows * 65536
+
+-- where a pass begins: room for all that it may write
+pub record PassRoom (store : Text) (used₀ rows : ℕ) : Type 0 where
+  pub ample : used₀ + 98304 ≤ length store
+  pub low : used₀ ≤ 2 ^ 31
+  pub few : rows ≤ 2 ^ 31

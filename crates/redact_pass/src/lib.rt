@@ -1,0 +1,3 @@
+// The passes of a run over a message's tables.
+pub mod leaf;
+pub mod unnamed;
