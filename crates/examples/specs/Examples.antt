@@ -16,6 +16,7 @@ use Rattle.refusal.specs.Refusal.{number}
 use Rattle.message_model.specs.Message.{Leaf, leaf, Segment, segment, messageOf, messageFault, printMessage}
 use Rattle.message_model.specs.Value.{value, encode, isWholeWord}
 use Rattle.policy_model.specs.Policy.{PolicyRead, read, refused, readPolicy, printPolicy}
+use Rattle.striplog_text.specs.Striplog.{readKey, stripped}
 use Rattle.run_model.specs.Entries as E
 use Rattle.run_model.specs.Entries.{Lent, Outcome, Answer, done, redactAnswer, redactOutcome, appendAnswer, builtinAnswer, payloadAnswer}
 
@@ -63,6 +64,11 @@ pub data Row : Type 0 where
   segments-give : ℕ → ℕ → ℕ → ℕ → Row
   -- is the first text a whole word of the second?
   whole-word : String → String → Bool → Row
+  -- the text of key.txt is read as this key
+  key-is : String → ℕ → Row
+  key-refused : String → Row
+  -- striplog prints the fourth text of the texts of message.er7, policy.txt and key.txt
+  strips : String → String → String → String → Row
 
 -- ---- tests of two values
 
@@ -176,6 +182,9 @@ right (payload-refused s p n) = refuses (payloadAnswer lent (bytes s) (bytes p) 
 right (rules-give k n l) = policyFault (readPolicy (times k (bytes "PID keep\n"))) n l
 right (segments-give k f w n) = eqb (faultNumber (messageFault (bytes "MSH|^~\\&" ++ times k (bytes "\rOBX" ++ times f (0x7c ∷ replicate w 0x61))))) n
 right (whole-word v t b) = sameBool (isWholeWord (bytes v) (bytes t)) b
+right (key-is s n) = is eqb (readKey (bytes s)) n
+right (key-refused s) = isNone (readKey (bytes s))
+right (strips m p k t) = same (stripped (some (bytes m)) (some (bytes p)) (some (bytes k))) (bytes t)
 
 unfoldable pub allRight : List Row → Bool
 allRight [] = true
@@ -241,6 +250,19 @@ table =
     ∷ segments-give 89 46 3 0
     ∷ segments-give 90 46 3 6
     ∷ redacts "MSH|^~\\&|A\rPID|1||4412\rOBX|1|NM|KCAL||4412 kcal\r" "PID-3 mask\nknown-values on\n" 0 "MSH|^~\\&|A\rPID|1||****\rOBX|1|NM|KCAL||*********\r" "PID[1]-3[1].1.1 mask *\nOBX[1]-5[1].1.1 mask *\n" 2
+    ∷ key-is "0" 0
+    ∷ key-is "007\n" 7
+    ∷ key-is "18446744073709551615" 18446744073709551615
+    ∷ key-refused "18446744073709551616"
+    ∷ key-refused ""
+    ∷ key-refused "\n"
+    ∷ key-refused "1\n\n"
+    ∷ key-refused "1\r\n"
+    ∷ key-refused "1 "
+    ∷ key-refused "+1"
+    ∷ strips "MSH|^~\\&|A\rPID|1||4412\rOBX|1|NM|KCAL||4412 kcal\r" "PID-3 mask\nknown-values on\n" "0\n" "MSH|^~\\&|A\rPID|1||****\rOBX|1|NM|KCAL||*********\rPID[1]-3[1].1.1 mask *\nOBX[1]-5[1].1.1 mask *\nrows 2\n"
+    ∷ strips "MSH|^~\\&|A\rPID|1||4412\rOBX|1|NM|KCAL||4412 kcal\r" "known-values on\nPID-0 mask\n" "0" "refused 8 line 2\n"
+    ∷ strips "MSH|^~\\&|A\rPID|1||4412\rOBX|1|NM|KCAL||4412 kcal\r" "PID-3 mask\n" "0x" "bad input\n"
     -- counting OBX over all segments
     ∷ not-slipped "MSH|^~\\&\rPID|1\rOBX|1\rOBX|2" "OBX[2]-1 clear" "MSH|^~\\&\rPID|1\rOBX|1\rOBX|" "MSH|^~\\&\rPID|1\rOBX|1\rOBX|2"
     -- sweeping overlapping hits

@@ -22,6 +22,7 @@ use Rattle.policy.specs.declared.line.Unrecognised.{Unrecognised as HeldUnrecog
 use Rattle.policy.specs.declared.line.Unrecognised.the-variants as Held
 use Rattle.policy.specs.Line.{asUnrecognised}
 use Rattle.policy.specs.Policy.{asRules}
+use Rattle.policy.proofs.Rules.{behind, rules-step, rules-split}
 use Rattle.policy_print.specs.Display.{line, ruleText, rulesText, blankLine, unrecognisedLine, sweepLine}
 
 -- ---- a line that ends in what is printed
@@ -138,21 +139,6 @@ module _ (n : ℕ) (r : Rule) where
       rw rule-parts (wrote-then f (wrote-ended (rw q at g) h i))
 
 -- ---- the rules' lines
-
--- the first m rules of an array: the first i, the next, and those behind it
-module _ (t : Text) (rs : List HeldRule) (i : ℕ) (z : HeldRule) where
-  behind : ℕ → List Rule
-  behind m = map (asRule t) (take (m - (i + 1)) (drop (i + 1) rs))
-
-  rules-step : i < length rs → asRules t rs (i + 1) ≡ asRules t rs i ++ (asRule t (getD rs i z) ∷ [])
-  unfolding asRules
-  rules-step h = rw (add-one, take-suc rs i z h) (map-append (asRule t) (take i rs) (getD rs i z ∷ []))
-
-  rules-split : (m : ℕ) → i < m → m ≤ length rs → asRules t rs m ≡ asRules t rs (i + 1) ++ behind m
-  unfolding asRules behind
-  rules-split m h l =
-      let n : m ≡ i + 1 + (m - (i + 1)) = omega arith in
-      ap (λ k. map (asRule t) (take k rs)) n ∙ rw (take-add (i + 1) (m - (i + 1)) rs) (map-append (asRule t) (take (i + 1) rs) (take (m - (i + 1)) (drop (i + 1) rs)))
 
 pub joined-append : (xs ys : List Text) → joined (xs ++ ys) ≡ joined xs ++ joined ys
 unfolding joined

@@ -7,16 +7,23 @@ use Prim.Native.Nat.{ℕ, _+_, _-_, _≤_}
 use native.Mathlib.Omega.{arith}
 use borrow.Author.Tests.{ltb-false}
 use lib.Dec.{ltb}
-use lib.ListN.{length, length-append}
-use Rattle.text.specs.Text.{Text, Wrote}
-use Rattle.text.proofs.Laws.{clash}
+use lib.ListN.{length, length-append, length-take, length-drop, length-replicate}
+use Rattle.text.specs.Text.{Text, bytes, Wrote}
+use Rattle.text.specs.Number.{eightBytes}
+use Rattle.text.proofs.Spelling.{hexadecimal-length}
+use Rattle.text.proofs.Laws.{clash, zero-or}
+use Rattle.er7_redact.specs.Pseudonym as P
+use Rattle.er7_redact.specs.declared.action.Action.{Action as HeldAction}
+use Rattle.er7_redact.specs.declared.action.Action.the-variants as Held
+use Rattle.er7_redact.specs.Action.{apply, asAction, ActionHeld, room}
+use Rattle.er7_redact.proofs.Actions.{replacement-bare, replacement-length}
 use Rattle.refusal.specs.declared.Refusal.the-variants.{MessageTooLong}
 use Rattle.run_model.specs.Redact.{Fate, stays, becomes, vanishes, after, Row, changing, booked, bookAll}
 use Rattle.run_model.proofs.InStep.{isGone}
 use Rattle.er7_table.specs.Table.{cell, textAt}
 use Rattle.er7_render.specs.Stored.{TextSet, liveLen}
 use Rattle.er7_render.proofs.Slots.{behind-text, changed-text, changed-good}
-use Rattle.redact_act.specs.Act.{answered, stored, Acted, LeafHeld}
+use Rattle.redact_act.specs.Act.{answered, stored, Acted, Short, LeafHeld}
 use Rattle.redact_act.specs.declared.act.Fate.{Fate as HeldFate}
 use Rattle.redact_act.specs.declared.act.Fate.the-variants.{Stays, Becomes, TooLong}
 use Rattle.redact_row.proofs.Rows.{reported-more}
@@ -156,3 +163,20 @@ module _ {cells : List ℕ} {store : Text} {n i : ℕ} {c : Counters} (g : Roomy
           };
         };
       }
+
+-- what an action writes in a value's place is no longer than a message may be, where its replacement lies in a policy's text
+action-room : (key : ℕ) (t : Text) (a : HeldAction) (v : Text) → ActionHeld t a → length t ≤ 32768 → length v ≤ 49152 → room (apply key (asAction t a) v) ≤ 49152
+unfolding apply asAction room
+action-room key t Held.Keep v g l h = omega arith
+action-room key t Held.Clear v g l h = omega arith
+action-room key t Held.Null v g l h = omega arith
+action-room key t (Held.Replace i n) v g l h = zero-or n
+    (λ e. rw (replacement-bare t i n e) (unfold bytes in omega arith))
+    (λ z. omega (arith, replacement-length t i n (omega arith) g))
+action-room key t (Held.Mask c) v g l h = simp length-replicate (omega arith)
+action-room key t (Held.First n) v g l h = simp length-take (omega arith)
+action-room key t (Held.Last n) v g l h = simp length-drop (omega arith)
+action-room key t Held.Pseudonym v g l h = unfold P.pseudonym in omega (arith, hexadecimal-length (P.fold P.OFFSET (eightBytes key ++ v)))
+
+pub short-held : (key : ℕ) (t : Text) (a : HeldAction) → ActionHeld t a → length t ≤ 32768 → Short key t a
+short-held key t a g l = record { most = λ v h. action-room key t a v g l h }

@@ -1,3 +1,5 @@
 pub mod Walks
+pub mod Learnt
+pub mod Rules
 pub mod Acting
 pub mod Visits

@@ -1,11 +1,12 @@
 -- What a run's counters and buffers stand for. Assumes nothing: these are definitions.
 use mathlib.Core.Path.{_≡_}
-use mathlib.Core.Bool.{Bool}
+use mathlib.Core.Bool.{Bool, true, false}
 use mathlib.Core.List.{List}
 use Prim.Native.Nat.{ℕ, _+_, _-_, _*_, _≤_, _<_, _^_}
 use lib.ListN.{length}
 use Rattle.text.specs.Text.{Text, part}
-use Rattle.run_model.specs.Redact.{Fate, after, Row, changing, Known, Book, running, stopped, bookAll, printRow}
+use Rattle.run_model.specs.Redact.{Fate, after, Row, Event, changing, Known, Book, running, stopped, bookAll, printRow}
+use Rattle.redact_act.specs.Known.{knownFrom, GoodKnown, ActionsHeld}
 use Rattle.er7_table.specs.Table.{cell, placeAt, textAt, Good}
 use Rattle.er7_render.specs.Stored.{TextSet, liveLen, liveSum}
 use Rattle.redact_row.specs.Report.{RowAt, Reported}
@@ -87,18 +88,62 @@ pub record ActedOn (F : Fate) (ρ : Row) (n i : ℕ) (cells : List ℕ) (store r
     (cells′ : List ℕ) (store′ report′ : Text) (r : Done) : Type 0 where
   pub out : Outcome F ρ n i cells store report c cells′ store′ report′ r
 
+-- ---- the values that are known
+
+-- those that stand in `bytes`, by the rows of `known`
+unfoldable pub knownNow : Text → Text → List ℕ → Counters → List Known
+knownNow text bytes known c = knownFrom text bytes known 0 (c .known)
+
+pub record KnownHeld (text bytes : Text) (known : List ℕ) (c : Counters) : Type 0 where
+  pub good : GoodKnown bytes known (c .known) (c .«known_used»)
+  pub held : ActionsHeld text known (c .known)
+
+-- the events es, which learn values, are booked
+pub record LearntTo (es : List Event) (sweep : Bool) (text bytes : Text) (known : List ℕ) (c : Counters) (bytes′ : Text) (known′ : List ℕ) (c′ : Counters) : Type 0 where
+  pub rows : c′ .rows ≡ c .rows
+  pub report : c′ .«report_len» ≡ c .«report_len»
+  pub size : c′ .size ≡ c .size
+  pub used : c′ .used ≡ c .used
+  pub held : KnownHeld text bytes′ known′ c′
+  pub book : (report : Text) (b : Book) → Booked (knownNow text bytes known c) report c b → Booked (knownNow text bytes′ known′ c′) report c′ (bookAll sweep es b)
+
+abbrev pub LearntOr : List Event → Bool → Text → Text → List ℕ → Counters → Text → List ℕ → Done → Type 0
+LearntOr es sweep text bytes known c bytes′ known′ (Going c′) = LearntTo es sweep text bytes known c bytes′ known′ c′
+LearntOr es sweep text bytes known c bytes′ known′ (Stopped e) =
+    (report : Text) (b : Book) → Booked (knownNow text bytes known c) report c b → bookAll sweep es b ≡ stopped e
+
+pub record Learning (es : List Event) (sweep : Bool) (text bytes : Text) (known : List ℕ) (c : Counters) (bytes′ : Text) (known′ : List ℕ) (r : Done) : Type 0 where
+  pub out : LearntOr es sweep text bytes known c bytes′ known′ r
+
 -- ---- before leaf i in a pass over n leaves
 
--- what the pass has written, from `used₀` on, and the texts ahead together are no more than the message's size; the report's rows are few
-pub record Funded (cells : List ℕ) (i n used₀ rows : ℕ) (c : Counters) : Type 0 where
-  pub since : used₀ ≤ c .used
-  pub sum : c .used + liveSum cells i (n - i) ≤ used₀ + c .size
+-- The store has room for all that the pass may still write, and rows and report have room to be counted. A pass that acts on leaves
+-- may write a text for each, and all texts together are no longer than the message; one that collapses nodes writes two bytes for each.
+pub record Funded (node : Bool) (cells : List ℕ) (store : Text) (i n : ℕ) (c : Counters) : Type 0 where
+  pub sum : node ≡ false → c .used + liveSum cells i (n - i) + 98304 ≤ length store + c .size
+  pub flat : node ≡ true → c .used + 2 * (n - i) + 49152 ≤ length store
+  pub within : node ≡ false → liveSum cells i (n - i) ≤ c .size
+  pub texts : liveSum cells i (n - i) ≤ 49152
   pub most : c .size ≤ 49152
-  pub few : c .rows ≤ rows
-  pub report : c .«report_len» ≤ rows * 65536
+  pub wide : length store ≤ 2 ^ 31
+  pub few : c .rows + (n - i) ≤ 2 ^ 31
+  pub report : c .«report_len» + (n - i) * 65536 ≤ 2 ^ 47
 
--- where a pass begins: room for all that it may write
-pub record PassRoom (store : Text) (used₀ rows : ℕ) : Type 0 where
-  pub ample : used₀ + 98304 ≤ length store
-  pub low : used₀ ≤ 2 ^ 31
-  pub few : rows ≤ 2 ^ 31
+-- before leaf i, where a pass may collapse the node that begins there and ends at or before index `end`
+pub record NodeReady (cells : List ℕ) (store : Text) (n i end : ℕ) (c : Counters) : Type 0 where
+  pub inside : i < end
+  pub ends : end ≤ n
+  pub good : Good cells store n (c .used)
+  pub texts : liveSum cells i (end - i) ≤ 49152
+  pub most : c .size ≤ 49152
+  pub ample : c .used + 2 ≤ length store
+  pub low : c .used ≤ 2 ^ 32
+  pub rows : c .rows ≤ 2 ^ 32
+  pub report : c .«report_len» ≤ 2 ^ 48
+
+-- the text of leaf i, which has not vanished, may be learnt
+pub record Readable (cells : List ℕ) (store bytes : Text) (known : List ℕ) (i : ℕ) (c : Counters) : Type 0 where
+  pub row : i * 8 + 8 ≤ length cells
+  pub inside : cell cells i 1 + cell cells i 2 ≤ length store
+  pub short : cell cells i 2 ≤ 49152
+  pub good : GoodKnown bytes known (c .known) (c .«known_used»)

@@ -1,6 +1,6 @@
 -- A leaf that a pass has visited: what became of it, and the book. Assumes nothing: these are definitions.
 use mathlib.Core.Path.{_≡_}
-use mathlib.Core.Bool.{Bool, false}
+use mathlib.Core.Bool.{Bool, true, false}
 use mathlib.Core.List.{List}
 use mathlib.Core.Option.{Option}
 use Prim.Native.Nat.{ℕ, suc, _+_, _-_, _≤_, _<_}
@@ -8,12 +8,13 @@ use lib.ListN.{length, getD}
 use Rattle.text.specs.Text.{Text}
 use Rattle.er7.specs.declared.separators.Separators.{Separators}
 use Rattle.er7_redact.specs.Action.{Action}
+use Rattle.er7_redact.specs.Policy.{Rule}
 use Rattle.message_model.specs.Message.{Leaf, Label}
-use Rattle.run_model.specs.Redact.{Event, Known, Book, stopped, bookAll, leavesEvents, unnamedLeaf, unnamedEvents}
+use Rattle.run_model.specs.Redact.{Event, Known, Book, stopped, bookAll, ruleLeaf, ruleEvents, unnamedLeaf, unnamedEvents}
 use Rattle.er7_table.specs.Table.{listOf, placeAt, leafAt, Good}
 use Rattle.er7_render.specs.Stored.{liveLen}
-use Rattle.redact_pass.specs.Walk.{Pass, LeavesTo}
-use Rattle.redact_pass.specs.State.{Booked, Funded}
+use Rattle.redact_pass.specs.Walk.{Pass}
+use Rattle.redact_pass.specs.State.{Booked, knownNow, KnownHeld}
 use Rattle.redact_pass.specs.declared.leaf.Counters.{Counters}
 use Rattle.redact_pass.specs.declared.leaf.Done.{Done}
 use Rattle.redact_pass.specs.declared.leaf.Done.the-variants.{Going, Stopped}
@@ -30,8 +31,13 @@ unnamedPass key s pick = record { leaf = unnamedLeaf key s pick; says = unnamedE
 unfoldable pub saidOf : Pass → Label → ℕ → (ℕ → Leaf) → ℕ → List Event
 saidOf P g end f i = P .says g (f i) (listOf f (suc i) (end - suc i))
 
--- leaf i of n was visited: `ks` are the values that are known before, `ks′` behind it; `m` says which leaves are named before, `m′` behind it
-pub record Visited (P : Pass) (sweep : Bool) (g : Label) (n end i : ℕ) (ks ks′ : List Known) (m m′ : ℕ → Bool) (cells : List ℕ) (store report : Text)
+-- the pass of a rule
+unfoldable pub rulePass : ℕ → Separators → Rule → Pass
+rulePass key s r = record { leaf = ruleLeaf key s r; says = ruleEvents key s r }
+
+-- leaf i of n was visited, in a pass that collapses nodes or in one that acts on leaves: `ks` are the values that are known before, `ks′`
+-- behind it; `m` says which leaves are named before, `m′` behind it
+pub record Visited (P : Pass) (node sweep : Bool) (g : Label) (n end i : ℕ) (ks ks′ : List Known) (m m′ : ℕ → Bool) (cells : List ℕ) (store report : Text)
     (c : Counters) (cells′ : List ℕ) (store′ report′ : Text) (c′ : Counters) : Type 0 where
   pub good : Good cells′ store′ n (c′ .used)
   pub here : leafAt m′ cells′ store′ i ≡ P .leaf g (leafAt m cells store i) (listOf (leafAt m cells store) (suc i) (end - suc i))
@@ -41,47 +47,38 @@ pub record Visited (P : Pass) (sweep : Bool) (g : Label) (n end i : ℕ) (ks ks�
   pub cells-long : length cells′ ≡ length cells
   pub store-long : length store′ ≡ length store
   pub report-long : length report′ ≡ length report
-  pub paid : c′ .used + c .size ≤ c .used + c′ .size + liveLen cells i
+  pub paid : node ≡ false → c′ .used + c .size ≤ c .used + c′ .size + liveLen cells i
+  pub flat : node ≡ true → c′ .used ≤ c .used + 2
   pub grows : c .used ≤ c′ .used
   pub rows : c′ .rows ≤ c .rows + 1
   pub report-most : c′ .«report_len» ≤ c .«report_len» + 65536
   pub size-most : c′ .size ≤ 49152
   pub book : (b : Book) → Booked ks report c b → Booked ks′ report′ c′ (bookAll sweep (saidOf P g end (leafAt m cells store) i) b)
 
--- or the run was refused there
-abbrev pub VisitedOr : Pass → Bool → Label → ℕ → ℕ → ℕ → List Known → List Known → (ℕ → Bool) → (ℕ → Bool) → List ℕ → Text → Text → Counters → List ℕ → Text → Text → Done → Type 0
-VisitedOr P sweep g n end i ks ks′ m m′ cells store report c cells′ store′ report′ (Going c′) =
-    Visited P sweep g n end i ks ks′ m m′ cells store report c cells′ store′ report′ c′
-VisitedOr P sweep g n end i ks ks′ m m′ cells store report c cells′ store′ report′ (Stopped e) =
+-- ---- a visit that names no leaf and learns no value, or at which the run was refused
+
+pub record UnnamedVisited (P : Pass) (sweep : Bool) (g : Label) (n end i : ℕ) (ks : List Known) (m : ℕ → Bool) (cells : List ℕ) (store report : Text)
+    (c : Counters) (cells′ : List ℕ) (store′ report′ : Text) (c′ : Counters) : Type 0 where
+  pub visited : Visited P false sweep g n end i ks ks m m cells store report c cells′ store′ report′ c′
+  pub known : c′ .known ≡ c .known
+  pub known-used : c′ .«known_used» ≡ c .«known_used»
+
+abbrev pub UnnamedVisitedOr : Pass → Bool → Label → ℕ → ℕ → ℕ → List Known → (ℕ → Bool) → List ℕ → Text → Text → Counters → List ℕ → Text → Text → Done → Type 0
+UnnamedVisitedOr P sweep g n end i ks m cells store report c cells′ store′ report′ (Going c′) =
+    UnnamedVisited P sweep g n end i ks m cells store report c cells′ store′ report′ c′
+UnnamedVisitedOr P sweep g n end i ks m cells store report c cells′ store′ report′ (Stopped e) =
     (b : Book) → Booked ks report c b → bookAll sweep (saidOf P g end (leafAt m cells store) i) b ≡ stopped e
 
--- the leaves of a segment up to index i are visited; b₀ was the book
-pub record WalkedTo (P : Pass) (sweep : Bool) (g : Label) (n first end i : ℕ) (ks : List Known) (m₀ m : ℕ → Bool) (cells₀ : List ℕ) (store₀ : Text)
-    (cells : List ℕ) (store report : Text) (c : Counters) (b₀ : Book) : Type 0 where
-  pub book : Book
-  pub stands : Booked ks report c book
-  pub leaves : LeavesTo P sweep g n first end i (leafAt m₀ cells₀ store₀) (leafAt m cells store) b₀ book
+-- ---- a visit that may name the leaf and learn its values, by what the buffers hold
 
-pub record SegmentTo (P : Pass) (g : Label) (n first end i : ℕ) (ks₀ ks : List Known) (m₀ m : ℕ → Bool) (cells₀ : List ℕ) (store₀ report₀ : Text)
-    (c₀ : Counters) (cells : List ℕ) (store report : Text) (c : Counters) : Type 0 where
-  pub walked : (sweep : Bool) (b : Book) → Booked ks₀ report₀ c₀ b → WalkedTo P sweep g n first end i ks m₀ m cells₀ store₀ cells store report c b
+pub record RuleVisited (P : Pass) (node sweep : Bool) (g : Label) (n end i : ℕ) (text : Text) (named : List Bool) (cells : List ℕ) (store report bytes : Text) (known : List ℕ)
+    (c : Counters) (named′ : List Bool) (cells′ : List ℕ) (store′ report′ bytes′ : Text) (known′ : List ℕ) (c′ : Counters) : Type 0 where
+  pub visited : Visited P node sweep g n end i (knownNow text bytes known c) (knownNow text bytes′ known′ c′) (marked named) (marked named′) cells store report c cells′ store′ report′ c′
+  pub held : KnownHeld text bytes′ known′ c′
+  pub named-long : length named′ ≡ length named
 
--- a pass over n leaves, which began with `base` bytes of the store used and after at most `turns` rows, has come to leaf i of a segment
-pub record Passing (P : Pass) (g : Label) (n first end i base turns : ℕ) (ks₀ ks : List Known) (m₀ m : ℕ → Bool) (cells₀ : List ℕ) (store₀ report₀ : Text)
-    (c₀ : Counters) (cells : List ℕ) (store report : Text) (c : Counters) : Type 0 where
-  pub low : first ≤ i
-  pub high : i ≤ end
-  pub segment : SegmentTo P g n first end i ks₀ ks m₀ m cells₀ store₀ report₀ c₀ cells store report c
-  pub good : Good cells store n (c .used)
-  pub funded : Funded cells i n base (turns + (i - first)) c
-  pub place : (j : ℕ) → placeAt cells j ≡ placeAt cells₀ j
-  pub cells-long : length cells ≡ length cells₀
-  pub store-long : length store ≡ length store₀
-  pub report-long : length report ≡ length report₀
-
--- the segment is passed, or the run was refused in it
-abbrev pub PassedOr : Pass → Label → ℕ → ℕ → ℕ → ℕ → ℕ → List Known → List Known → (ℕ → Bool) → (ℕ → Bool) → List ℕ → Text → Text → Counters → List ℕ → Text → Text → Done → Type 0
-PassedOr P g n first end base turns ks₀ ks m₀ m cells₀ store₀ report₀ c₀ cells store report (Going c) =
-    Passing P g n first end end base turns ks₀ ks m₀ m cells₀ store₀ report₀ c₀ cells store report c
-PassedOr P g n first end base turns ks₀ ks m₀ m cells₀ store₀ report₀ c₀ cells store report (Stopped e) =
-    (sweep : Bool) (b : Book) → Booked ks₀ report₀ c₀ b → bookAll sweep (leavesEvents (P .says) g (listOf (leafAt m₀ cells₀ store₀) first (end - first))) b ≡ stopped e
+abbrev pub RuleVisitedOr : Pass → Bool → Bool → Label → ℕ → ℕ → ℕ → Text → List Bool → List ℕ → Text → Text → Text → List ℕ → Counters → List Bool → List ℕ → Text → Text → Text → List ℕ → Done → Type 0
+RuleVisitedOr P node sweep g n end i text named cells store report bytes known c named′ cells′ store′ report′ bytes′ known′ (Going c′) =
+    RuleVisited P node sweep g n end i text named cells store report bytes known c named′ cells′ store′ report′ bytes′ known′ c′
+RuleVisitedOr P node sweep g n end i text named cells store report bytes known c named′ cells′ store′ report′ bytes′ known′ (Stopped e) =
+    (b : Book) → Booked (knownNow text bytes known c) report c b → bookAll sweep (saidOf P g end (leafAt (marked named) cells store) i) b ≡ stopped e

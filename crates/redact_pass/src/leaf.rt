@@ -9,12 +9,11 @@ use redact_row::reach::Label;
 use redact_row::report::row_at;
 use refusal::Refusal;
 ghost use mathlib.Core.Path.{_≡_};
-ghost use Prim.Native.Nat.{_+_, _*_, _≤_, _<_, _^_};
+ghost use Prim.Native.Nat.{_+_, _-_, _*_, _≤_, _<_, _^_};
 ghost use lib.ListN.{length};
 ghost use Rattle.er7_redact.specs.Action.{asAction, ActionHeld};
 ghost use Rattle.run_model.specs.Redact.{row};
 ghost use Rattle.run_model.specs.Redact as Redact;
-ghost use Rattle.redact_act.specs.Act.{Short};
 ghost use Rattle.redact_row.specs.Reach.{asLabel};
 ghost use Rattle.redact_pass.specs.State.{textOf, Roomy, Entered, ActedOn};
 
@@ -34,8 +33,18 @@ pub enum Done {
     Stopped(Refusal),
 }
 
+// a - b, or 0 where b is more.
+pub fn less(a: usize, b: usize) -> usize
+    ensures { λ r. ⌜ r ≡ a - b ⌝ }
+{
+    if a < b {
+        return 0;
+    }
+    a - b
+}
+
 // Leaf i, which had went bytes, has its new text of came bytes behind the last one in the store: its row of the table and its row of the report.
-fn enter(
+pub fn enter(
     a: Action,
     g: Label,
     p: Place,
@@ -47,7 +56,7 @@ fn enter(
     report: &mut [u8],
     c: Counters,
 ) -> Counters
-    requires { ⌜ ActionHeld (now text) a × (i * 8 + 8 ≤ length (now cells)) × (went ≤ c .size) × (c .size + came < 2 ^ 64) × (c .used + came < 2 ^ 64) × (c .rows + 1 < 2 ^ 64) × (c .«report_len» + 65536 < 2 ^ 64) × (length (now text) ≤ 32768) ⌝ }
+    requires { ⌜ ActionHeld (now text) a × (i * 8 + 8 ≤ length (now cells)) × (c .size + came < 2 ^ 64) × (c .used + came < 2 ^ 64) × (c .rows + 1 < 2 ^ 64) × (c .«report_len» + 65536 < 2 ^ 64) × (length (now text) ≤ 32768) ⌝ }
     ensures { λ r. ⌜ Entered (row (asLabel g) p (asAction (now (text .entry)) a)) i went came (now (cells .entry)) (now (report .entry)) c (now (cells .exit)) (now (report .exit)) r ⌝ }
 {
     let used = c.used;
@@ -56,7 +65,7 @@ fn enter(
     Counters {
         rows: c.rows + 1,
         report_len,
-        size: c.size - went + came,
+        size: less(c.size, went) + came,
         used: used + came,
         known: c.known,
         known_used: c.known_used,
@@ -80,7 +89,7 @@ pub fn act_on(
     new: &mut [u8],
     c: Counters,
 ) -> Done
-    requires { ⌜ ActionHeld (now text) a × Short key (now text) a × Roomy (now cells) (now store) n i c × (length (now text) ≤ 32768) × (49152 ≤ length (now value)) × (49152 ≤ length (now new)) ⌝ }
+    requires { ⌜ ActionHeld (now text) a × Roomy (now cells) (now store) n i c × (length (now text) ≤ 32768) × (49152 ≤ length (now value)) × (49152 ≤ length (now new)) ⌝ }
     ensures { λ r. ⌜ ActedOn (Redact.act key s (asAction (now (text .entry)) a) (textOf (now (cells .entry)) (now (store .entry)) i)) (row (asLabel g) p (asAction (now (text .entry)) a)) n i (now (cells .entry)) (now (store .entry)) (now (report .entry)) c (now (cells .exit)) (now (store .exit)) (now (report .exit)) r ⌝ }
 {
     let at = i * 8;

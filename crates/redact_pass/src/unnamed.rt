@@ -1,10 +1,12 @@
-// The pass of a rejecting posture over unnamed leaves.
+// The passes over unnamed leaves: a rejecting posture, and the sweep.
 use super::leaf::Counters;
 use super::leaf::Done;
 use super::leaf::act_on;
 use er7::separators::Separators;
 use er7_redact::action::Action;
 use er7_render::render::place_at;
+use redact_act::known::action_at;
+use redact_act::known::for_sweep;
 use redact_row::reach::Label;
 use redact_row::reach::touchable;
 ghost use mathlib.Core.Path.{_≡_};
@@ -14,12 +16,10 @@ ghost use Prim.Native.Nat.{ℕ, _+_, _-_, _≤_};
 ghost use lib.ListN.{length};
 ghost use Rattle.er7_redact.specs.Action.{asAction, ActionHeld};
 ghost use Rattle.er7_redact.specs.Policy.{reject};
-ghost use Rattle.run_model.specs.Redact.{forPosture, Known};
-ghost use Rattle.er7_table.specs.Table.{Good};
-ghost use Rattle.redact_act.specs.Act.{Short};
+ghost use Rattle.run_model.specs.Redact.{forPosture, forSweep, Known};
 ghost use Rattle.redact_row.specs.Reach.{asLabel};
-ghost use Rattle.redact_pass.specs.State.{Ready, Funded, PassRoom};
-ghost use Rattle.redact_pass.specs.Visit.{unnamedPass, marked, VisitedOr, PassedOr};
+ghost use Rattle.redact_pass.specs.State.{knownNow, KnownHeld, Ready};
+ghost use Rattle.redact_pass.specs.Visit.{unnamedPass, UnnamedVisitedOr};
 
 // The action a on leaf i of n of the segment g, unless the leaf has vanished, is named or may not be touched.
 pub fn reject_leaf(
@@ -38,8 +38,8 @@ pub fn reject_leaf(
     new: &mut [u8],
     c: Counters,
 ) -> Done
-    requires { ⌜ ActionHeld (now text) a × Short key (now text) a × Ready (now cells) (now store) n i c × (length (now text) ≤ 32768) × (49152 ≤ length (now value)) × (49152 ≤ length (now new)) ⌝ }
-    ensures { λ r. ⌜ ((sweep : Bool) (end : ℕ) (ks : List Known) (m : ℕ → Bool) → m i ≡ named → VisitedOr (unnamedPass key s (forPosture (reject (asAction (now (text .entry)) a)))) sweep (asLabel g) n end i ks ks m m (now (cells .entry)) (now (store .entry)) (now (report .entry)) c (now (cells .exit)) (now (store .exit)) (now (report .exit)) r) ⌝ }
+    requires { ⌜ ActionHeld (now text) a × Ready (now cells) (now store) n i c × (length (now text) ≤ 32768) × (49152 ≤ length (now value)) × (49152 ≤ length (now new)) ⌝ }
+    ensures { λ r. ⌜ ((sweep : Bool) (end : ℕ) (ks : List Known) (m : ℕ → Bool) → m i ≡ named → UnnamedVisitedOr (unnamedPass key s (forPosture (reject (asAction (now (text .entry)) a)))) sweep (asLabel g) n end i ks m (now (cells .entry)) (now (store .entry)) (now (report .entry)) c (now (cells .exit)) (now (store .exit)) (now (report .exit)) r) ⌝ }
 {
     let at = i * 8;
     if cells[at + 3] != 0 {
@@ -67,57 +67,57 @@ pub fn reject_leaf(
     )
 }
 
-// The action a on the unnamed leaves of the segment g, those from index first to index end of n. The pass began with base bytes of the store used, and turns bounds the rows before this segment.
-pub fn reject_segment(
+// The sweep on leaf i of n of the segment g: the action of the first learnt value that is a whole word of it, unless the leaf has vanished, is named or may not be touched.
+pub fn sweep_leaf(
     key: u64,
     s: Separators,
-    a: Action,
     g: Label,
     text: &[u8],
     n: usize,
-    first: usize,
-    end: usize,
-    base: usize,
-    turns: usize,
-    named: &[bool],
+    i: usize,
+    was: bool,
     cells: &mut [usize],
     store: &mut [u8],
     report: &mut [u8],
     value: &mut [u8],
     new: &mut [u8],
-    c0: Counters,
+    bytes: &[u8],
+    known: &[usize],
+    c: Counters,
 ) -> Done
-    requires { ⌜ ActionHeld (now text) a × Short key (now text) a × (length (now text) ≤ 32768) × (49152 ≤ length (now value)) × (49152 ≤ length (now new)) × (first ≤ end) × (end ≤ n) × (n ≤ 4096) × (n ≤ length (now named)) × Good (now cells) (now store) n (c0 .used) × Funded (now cells) first n base turns c0 × PassRoom (now store) base (turns + (end - first)) ⌝ }
-    ensures { λ r. ⌜ ((ks : List Known) → PassedOr (unnamedPass key s (forPosture (reject (asAction (now (text .entry)) a)))) (asLabel g) n first end base turns ks ks (marked (now (named .entry))) (marked (now (named .entry))) (now (cells .entry)) (now (store .entry)) (now (report .entry)) c0 (now (cells .exit)) (now (store .exit)) (now (report .exit)) r) ⌝ }
+    requires { ⌜ KnownHeld (now text) (now bytes) (now known) c × Ready (now cells) (now store) n i c × (length (now text) ≤ 32768) × (49152 ≤ length (now value)) × (49152 ≤ length (now new)) ⌝ }
+    ensures { λ r. ⌜ ((sweep : Bool) (end : ℕ) (ks : List Known) (m : ℕ → Bool) → m i ≡ was → UnnamedVisitedOr (unnamedPass key s (forSweep s (knownNow (now (text .entry)) (now (bytes .entry)) (now (known .entry)) c))) sweep (asLabel g) n end i ks m (now (cells .entry)) (now (store .entry)) (now (report .entry)) c (now (cells .exit)) (now (store .exit)) (now (report .exit)) r) ⌝ }
 {
-    let mut c = c0;
-    let mut i = first;
-    while i < end {
-        let was = named[i];
-        match reject_leaf(
-            key,
-            s,
-            a,
-            g,
-            text,
-            n,
-            i,
-            was,
-            cells,
-            store,
-            report,
-            value,
-            new,
-            c,
-        ) {
-            Done::Going(next) => {
-                c = next;
-            }
-            Done::Stopped(refusal) => {
-                return Done::Stopped(refusal);
-            }
-        }
-        i += 1;
+    let at = i * 8;
+    if cells[at + 3] != 0 {
+        return Done::Going(c);
     }
-    Done::Going(c)
+    let start = cells[at + 1];
+    let len = cells[at + 2];
+    let p = place_at(cells, i);
+    if !(touchable(g, p) & !was) {
+        return Done::Going(c);
+    }
+    let end = start + len;
+    let row = for_sweep(s, &store[start..end], value, bytes, known, c.known);
+    if row == c.known {
+        return Done::Going(c);
+    }
+    let a = action_at(known, row);
+    act_on(
+        key,
+        s,
+        a,
+        g,
+        p,
+        text,
+        n,
+        i,
+        cells,
+        store,
+        report,
+        value,
+        new,
+        c,
+    )
 }

@@ -2,12 +2,10 @@ use native.Mathlib.Omega.{arith}
 use borrow.Author.Needs.{needs}
 use Rattle.redact_pass.proofs.leaf.act_on.Statement.{statement}
 use Rattle.redact_pass.proofs.leaf.act_on.Tie as tie
-use Rattle.redact_pass.proofs.leaf.act_on.Reads as reads
-use Rattle.redact_pass.proofs.leaf.act_on.Lts as lts
 use Rattle.er7_table.specs.Table.{cell}
 use Rattle.run_model.proofs.InStep.{act-gone}
 use Rattle.redact_pass.specs.State.{textOf}
-use Rattle.redact_pass.proofs.Acting.{leaf-held, acted-stays, acted-long, acted-becomes, becomes-most}
+use Rattle.redact_pass.proofs.Acting.{short-held, leaf-held, acted-stays, acted-long, acted-becomes, becomes-most}
 
 mul-at : tie.Need-mul-at
 mul-at c = search needs
@@ -32,7 +30,7 @@ slice-read-len c = search needs
 
 act-requires : tie.Need-act-requires
 unfolding cell
-act-requires c κs = (c .before .before .before .before .before .before .before .before .before .before .before .pre .0, c .before .before .before .before .before .before .before .before .before .before .before .pre .1, leaf-held (c .before .before .before .before .before .before .before .before .before .before .before .pre .2), c .before .before .before .before .before .before .before .before .before .before .before .pre .4, c .before .before .before .before .before .before .before .before .before .before .before .pre .5)
+act-requires c κs = (c .before .before .before .before .before .before .before .before .before .before .before .pre .0, short-held _ _ _ (c .before .before .before .before .before .before .before .before .before .before .before .pre .0) (c .before .before .before .before .before .before .before .before .before .before .before .pre .2), leaf-held (c .before .before .before .before .before .before .before .before .before .before .before .pre .1), c .before .before .before .before .before .before .before .before .before .before .before .pre .3, c .before .before .before .before .before .before .before .before .before .before .before .pre .4)
 
 enum-told : tie.Need-enum-told
 enum-told c = search needs
@@ -42,7 +40,7 @@ enum-known-came c = search needs
 
 enter-requires : tie.Need-enter-requires
 unfolding cell
-enter-requires c κs = let k = becomes-most (c .before .before .before .before .before .before .before .before .before .before .before .before .before .before .before .before .before .before .before .before .before .before .before .pre .2) _ (c .before .before .before .before .before .before .before .before .before .before .before .act .ensures) (c .before .before .before .came .given .1) in (c .before .before .before .before .before .before .before .before .before .before .before .before .before .before .before .before .before .before .before .before .before .before .before .pre .0, omega (arith, c .before .before .before .before .before .before .before .before .before .before .before .before .before .before .before .before .before .before .before .before .before .before .before .pre .2 .good .rows, c .before .before .before .before .before .before .before .before .before .before .before .before .before .before .before .before .before .before .before .before .before .before .before .pre .2 .inside), c .before .before .before .before .before .before .before .before .before .before .before .before .before .before .before .before .before .before .before .before .before .before .before .pre .2 .within, omega (arith, k, c .before .before .before .before .before .before .before .before .before .before .before .before .before .before .before .before .before .before .before .before .before .before .before .pre .2 .most), omega (arith, k, c .before .before .before .before .before .before .before .before .before .before .before .before .before .before .before .before .before .before .before .before .before .before .before .pre .2 .low), omega (arith, c .before .before .before .before .before .before .before .before .before .before .before .before .before .before .before .before .before .before .before .before .before .before .before .pre .2 .rows), omega (arith, c .before .before .before .before .before .before .before .before .before .before .before .before .before .before .before .before .before .before .before .before .before .before .before .pre .2 .report), c .before .before .before .before .before .before .before .before .before .before .before .before .before .before .before .before .before .before .before .before .before .before .before .pre .3)
+enter-requires c κs = let k = becomes-most (c .before .before .before .before .before .before .before .before .before .before .before .before .before .before .before .before .before .before .before .before .before .before .before .pre .1) _ (c .before .before .before .before .before .before .before .before .before .before .before .act .ensures) (c .before .before .before .came .given .1) in (c .before .before .before .before .before .before .before .before .before .before .before .before .before .before .before .before .before .before .before .before .before .before .before .pre .0, omega (arith, c .before .before .before .before .before .before .before .before .before .before .before .before .before .before .before .before .before .before .before .before .before .before .before .pre .1 .good .rows, c .before .before .before .before .before .before .before .before .before .before .before .before .before .before .before .before .before .before .before .before .before .before .before .pre .1 .inside), omega (arith, k, c .before .before .before .before .before .before .before .before .before .before .before .before .before .before .before .before .before .before .before .before .before .before .before .pre .1 .most), omega (arith, k, c .before .before .before .before .before .before .before .before .before .before .before .before .before .before .before .before .before .before .before .before .before .before .before .pre .1 .low), omega (arith, c .before .before .before .before .before .before .before .before .before .before .before .before .before .before .before .before .before .before .before .before .before .before .before .pre .1 .rows), omega (arith, c .before .before .before .before .before .before .before .before .before .before .before .before .before .before .before .before .before .before .before .before .before .before .before .pre .1 .report), c .before .before .before .before .before .before .before .before .before .before .before .before .before .before .before .before .before .before .before .before .before .before .before .pre .2)
 
 enum-told-2 : tie.Need-enum-told-2
 enum-told-2 c = search needs
@@ -58,7 +56,7 @@ same-length-3 c = search needs
 
 returns : tie.Need-returns
 unfolding cell textOf
-returns c = acted-stays (c .before .before .before .before .before .before .before .before .before .before .before .before .before .before .before .before .before .before .before .before .pre .2) _ _ _ (act-gone _ _ _ _) (c .before .before .before .before .before .before .before .before .act .ensures) (c .enum-told .given .1)
+returns c = acted-stays (c .before .before .before .before .before .before .before .before .before .before .before .before .before .before .before .before .before .before .before .before .pre .1) _ _ _ (act-gone _ _ _ _) (c .before .before .before .before .before .before .before .before .act .ensures) (c .enum-told .given .1)
 
 same-length-4 : tie.Need-same-length-4
 same-length-4 c = search needs
@@ -77,7 +75,7 @@ same-length-8 c = search needs
 
 returns-2 : tie.Need-returns-2
 unfolding cell textOf
-returns-2 c = acted-becomes (c .before .before .before .before .before .before .before .before .before .before .before .before .before .before .before .before .before .before .before .before .before .before .before .before .before .before .before .before .pre .2) _ _ _ (c .before .before .before .before .before .before .before .before .before .before .before .before .before .before .before .before .act .ensures) (c .before .before .before .before .before .before .before .before .came .given .1) (c .before .before .before .before .enter .ensures)
+returns-2 c = acted-becomes (c .before .before .before .before .before .before .before .before .before .before .before .before .before .before .before .before .before .before .before .before .before .before .before .before .before .before .before .before .pre .1) _ _ _ (c .before .before .before .before .before .before .before .before .before .before .before .before .before .before .before .before .act .ensures) (c .before .before .before .before .before .before .before .before .came .given .1) (c .before .before .before .before .enter .ensures)
 
 same-length-9 : tie.Need-same-length-9
 same-length-9 c = search needs
@@ -90,7 +88,7 @@ same-length-11 c = search needs
 
 returns-3 : tie.Need-returns-3
 unfolding cell textOf
-returns-3 c = acted-long (c .before .before .before .before .before .before .before .before .before .before .before .before .before .before .before .before .before .before .before .before .pre .2) _ _ _ (c .before .before .before .before .before .before .before .before .act .ensures) (c .enum-told2 .given .1)
+returns-3 c = acted-long (c .before .before .before .before .before .before .before .before .before .before .before .before .before .before .before .before .before .before .before .before .pre .1) _ _ _ (c .before .before .before .before .before .before .before .before .act .ensures) (c .enum-told2 .given .1)
 
 pub act-on-spec : {M : Type 1} → statement M
 act-on-spec =

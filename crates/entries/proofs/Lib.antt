@@ -1,0 +1,4 @@
+pub mod Outcomes
+pub mod Printing
+pub mod Rooms
+pub mod Payloads

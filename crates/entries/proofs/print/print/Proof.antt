@@ -1,0 +1,55 @@
+use native.Mathlib.Omega.{arith}
+use borrow.Author.Needs.{needs}
+use Rattle.entries.proofs.print.print.Statement.{statement}
+use Rattle.entries.proofs.print.print.Tie as tie
+use mathlib.Core.Path.{refl, sym, _∙_}
+use Rattle.run_model.specs.Entries.{printAnswer, printOutcome}
+use Rattle.entries.proofs.Outcomes.{same-lent, wide-output, with-short, with-wide}
+use Rattle.entries.proofs.Printing.{written-in}
+
+is-short-requires : tie.Need-is-short-requires
+is-short-requires c κs = search needs
+
+refuse-text-requires : tie.Need-refuse-text-requires
+refuse-text-requires c κs = search needs
+
+same-length : tie.Need-same-length
+same-length c = search needs
+
+same-length-2 : tie.Need-same-length-2
+same-length-2 c = search needs
+
+returns : tie.Need-returns
+unfolding printOutcome printAnswer
+returns c = c .before .before .before .before .refuse-text .ensures ∙ with-short _ _ (sym (c .before .before .before .before .before .before .before .before .is-short .ensures 0) ∙ c .before .before .before .before .before .before .before .if1 .taken)
+
+print-text-requires : tie.Need-print-text-requires
+print-text-requires c κs = omega (arith, wide-output _ _ _ (sym (c .before .before .is-short .ensures 0) ∙ c .before .if1 .left))
+
+answer-requires : tie.Need-answer-requires
+answer-requires c κs = written-in _ (c .before .before .before .before .print-text .ensures) (c .before .before .before .before .print-text .kept .1 .0)
+
+same-length-3 : tie.Need-same-length-3
+same-length-3 c = search needs
+
+same-length-4 : tie.Need-same-length-4
+same-length-4 c = search needs
+
+returns-2 : tie.Need-returns-2
+unfolding printOutcome printAnswer
+returns-2 c = c .before .before .before .before .answer .ensures _ _ (c .before .before .before .before .before .before .before .before .before .print-text .ensures) ∙ same-lent _ _ _ (c .before .before .before .before .before .before .before .before .before .print-text .kept .1 .0) ∙ with-wide _ _ (sym (c .before .before .before .before .before .before .before .before .before .before .before .before .is-short .ensures 0) ∙ c .before .before .before .before .before .before .before .before .before .before .before .if1 .left) refl
+
+pub print-spec : {M : Type 1} → statement M
+print-spec =
+    tie.close
+    (tie.spec
+    is-short-requires
+    refuse-text-requires
+    same-length
+    same-length-2
+    returns
+    print-text-requires
+    answer-requires
+    same-length-3
+    same-length-4
+    returns-2)

@@ -1,0 +1,23 @@
+-- What the contracts of private functions cite; no public contract rests on it. Assumes nothing: these are definitions.
+use Prim.Native.Nat.{ℕ, _≤_}
+use lib.ListN.{length}
+use Rattle.text.specs.Text.{Text}
+use Rattle.er7_redact.specs.Action as A
+use Rattle.er7_redact.specs.Action.{Action, room}
+use Rattle.policy_model.specs.Policy.{Unrecognised, pass, refuse, apply}
+use Rattle.policy_print.specs.declared.print.Printed.{Printed}
+use Rattle.policy_print.specs.declared.print.Printed.the-variants.{Written, Refused}
+
+-- what was printed lies in a buffer of m bytes
+abbrev pub WrittenIn : ℕ → Printed → Type 0
+WrittenIn m (Written n) = n ≤ m
+WrittenIn m (Refused e n) = Unit {0}
+
+-- what an action writes in the place of a text is no longer than a message may be, if the text is none longer
+abbrev pub NeverLong : ℕ → Action → Type 0
+NeverLong key a = (v : Text) → length v ≤ 49152 → room (A.apply key a v) ≤ 49152
+
+abbrev pub UnrecognisedShort : ℕ → Unrecognised → Type 0
+UnrecognisedShort key pass = Unit {0}
+UnrecognisedShort key refuse = Unit {0}
+UnrecognisedShort key (apply a) = NeverLong key a

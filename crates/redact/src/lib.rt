@@ -1,0 +1,2 @@
+// The entry redact.
+pub mod redact;

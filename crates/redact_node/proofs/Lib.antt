@@ -1,0 +1,4 @@
+pub mod Nodes
+pub mod Lessons
+pub mod Collapses
+pub mod NodeVisits

@@ -1,0 +1,93 @@
+-- A node's leaves in the table of leaves, and its collapse. What the contracts of private functions cite; no public contract rests on it.
+-- Assumes nothing: these are definitions.
+use mathlib.Core.Path.{_≡_}
+use mathlib.Core.Bool.{Bool, cond, _&&_}
+use mathlib.Core.List.{List, [], _∷_}
+use Prim.Native.Nat.{ℕ, zero, suc, _+_, _-_, _*_, _≤_, _<_}
+use lib.Dec.{eqb}
+use lib.ListN.{length}
+use Rattle.text.specs.Text.{Text}
+use Rattle.message_model.specs.Value.{isNull}
+use Rattle.run_model.specs.Redact.{Reach, Fate, after, collapse, isNil, Row, changing, Known, Book, stopped, bookAll}
+use Rattle.er7_table.specs.Table.{cell, placeAt, textAt, Good}
+use Rattle.er7_render.specs.Stored.{liveLen}
+use Rattle.redact_row.specs.Reach.{startsAt}
+use Rattle.redact_act.specs.Known.{GoodKnown}
+use Rattle.redact_pass.specs.State.{Booked, textOf}
+use Rattle.redact_pass.specs.declared.leaf.Counters.{Counters}
+use Rattle.redact_pass.specs.declared.leaf.Done.{Done}
+use Rattle.redact_pass.specs.declared.leaf.Done.the-variants.{Going, Stopped}
+
+-- ---- the leaves of a node
+
+-- leaf i has not vanished, and begins a node
+unfoldable pub opens : Reach → List ℕ → ℕ → Bool
+opens r cells i = eqb (cell cells i 3) 0 && startsAt r (placeAt cells i)
+
+-- the first of k leaves from leaf i on that does so, or the index behind them
+unfoldable pub nodeEnd : Reach → List ℕ → ℕ → ℕ → ℕ
+nodeEnd r cells i zero = i
+nodeEnd r cells i (suc k) = cond (opens r cells i) i (nodeEnd r cells (suc i) k)
+
+-- the texts of k leaves from leaf i on, of those that have not vanished
+unfoldable pub liveTexts : List ℕ → Text → ℕ → ℕ → List Text
+liveTexts cells store i zero = []
+liveTexts cells store i (suc k) =
+    let more = liveTexts cells store (suc i) k in
+    cond (eqb (cell cells i 3) 0) (textOf cells store i ∷ more) more
+
+-- the bytes of leaf i with its delimiter, none if it has vanished; and those of k leaves from leaf i on
+unfoldable pub leafSize : List ℕ → ℕ → ℕ
+leafSize cells i = cond (eqb (cell cells i 3) 0) (cell cells i 2 + 1) 0
+
+unfoldable pub leavesSize : List ℕ → ℕ → ℕ → ℕ
+leavesSize cells i zero = 0
+leavesSize cells i (suc k) = leafSize cells i + leavesSize cells (suc i) k
+
+-- the text of leaf i may be learnt, unless it has vanished; so may those of the leaves from leaf i to before leaf `end`
+pub record Legible (cells : List ℕ) (store bytes : Text) (known : List ℕ) (i : ℕ) (c : Counters) : Type 0 where
+  pub row : i * 8 + 8 ≤ length cells
+  pub inside : cell cells i 1 + cell cells i 2 ≤ length store
+  pub short : liveLen cells i ≤ 49152
+  pub good : GoodKnown bytes known (c .known) (c .«known_used»)
+
+pub record AllLegible (cells : List ℕ) (store : Text) (first end : ℕ) : Type 0 where
+  pub order : first ≤ end
+  pub rows : end * 8 ≤ length cells
+  pub inside : (i : ℕ) → i < end → cell cells i 1 + cell cells i 2 ≤ length store
+  pub short : (i : ℕ) → first ≤ i → i < end → liveLen cells i ≤ 49152
+
+-- ---- the collapse
+
+-- "a node that is already that is left": the node of leaf i, which ends before leaf e, is one null leaf
+unfoldable pub already : List ℕ → Text → ℕ → ℕ → Bool
+already cells store i e = isNull (textOf cells store i) && isNil (liveTexts cells store (suc i) (e - suc i))
+
+-- leaf i of n had the fate F, with the row ρ, where `went` bytes of the message went
+pub record Nulled (F : Fate) (ρ : Row) (went n i : ℕ) (cells : List ℕ) (store report : Text) (c : Counters)
+    (cells′ : List ℕ) (store′ report′ : Text) (c′ : Counters) : Type 0 where
+  pub good : Good cells′ store′ n (c′ .used)
+  pub here : textAt cells′ store′ i ≡ after F (textOf cells store i)
+  pub other : (j : ℕ) → j < n → (j ≡ i → ⊥) → textAt cells′ store′ j ≡ textAt cells store j
+  pub place : (j : ℕ) → placeAt cells′ j ≡ placeAt cells j
+  pub lens : (j : ℕ) → (j ≡ i → ⊥) → liveLen cells′ j ≡ liveLen cells j
+  pub cells-long : length cells′ ≡ length cells
+  pub store-long : length store′ ≡ length store
+  pub report-long : length report′ ≡ length report
+  pub flat : c′ .used ≤ c .used + 2
+  pub grows : c .used ≤ c′ .used
+  pub known : c′ .known ≡ c .known
+  pub known-used : c′ .«known_used» ≡ c .«known_used»
+  pub rows : c′ .rows ≤ c .rows + 1
+  pub report-most : c′ .«report_len» ≤ c .«report_len» + 65536
+  pub size-most : c′ .size ≤ 49152
+  pub book : (sweep : Bool) (ks : List Known) (b : Book) → Booked ks report c b → Booked ks report′ c′ (bookAll sweep (changing ρ went F) b)
+
+abbrev pub NulledOr : Fate → Row → ℕ → ℕ → ℕ → List ℕ → Text → Text → Counters → List ℕ → Text → Text → Done → Type 0
+NulledOr F ρ went n i cells store report c cells′ store′ report′ (Going c′) = Nulled F ρ went n i cells store report c cells′ store′ report′ c′
+NulledOr F ρ went n i cells store report c cells′ store′ report′ (Stopped e) =
+    (sweep : Bool) (ks : List Known) (b : Book) → Booked ks report c b → bookAll sweep (changing ρ went F) b ≡ stopped e
+
+pub record Nulling (F : Fate) (ρ : Row) (went n i : ℕ) (cells : List ℕ) (store report : Text) (c : Counters)
+    (cells′ : List ℕ) (store′ report′ : Text) (r : Done) : Type 0 where
+  pub out : NulledOr F ρ went n i cells store report c cells′ store′ report′ r

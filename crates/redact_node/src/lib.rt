@@ -1,0 +1,2 @@
+// The collapse of a node.
+pub mod node;

@@ -1,0 +1,2 @@
+// Room for a turn of a run.
+pub mod room;

@@ -1,0 +1,5 @@
+pub mod Stages
+pub mod Rooms
+pub mod Ruling
+pub mod Ending
+pub mod Whole

@@ -1,0 +1,2 @@
+// The turns of a run, one behind the other.
+pub mod run;

@@ -1,0 +1,106 @@
+-- Laws of the room that a pass needs. Assumes nothing.
+use mathlib.Core.Path.{_≡_, refl}
+use mathlib.Core.Bool.{Bool, true, false}
+use mathlib.Core.List.{List}
+use Prim.Native.Nat.{ℕ, zero, suc, _+_, _-_, _≤_, _<_}
+use native.Mathlib.Omega.{arith}
+use Rattle.text.specs.Text.{Text}
+use Rattle.message_model.specs.Message.{Label}
+use Rattle.run_model.specs.Redact.{Known}
+use Rattle.er7_table.specs.Table.{Good}
+use Rattle.er7_render.specs.Stored.{liveLen, liveSum}
+use Rattle.redact_pass.specs.Walk.{Pass}
+use Rattle.redact_pass.specs.State.{Ready, NodeReady, Funded}
+use Rattle.redact_pass.specs.Visit.{Visited}
+use Rattle.redact_pass.specs.declared.leaf.Counters.{Counters}
+use Rattle.redact_pass.proofs.Visits.{live-length}
+
+-- ---- the texts ahead
+
+sum-step : (cells : List ℕ) (i n : ℕ) → i < n → liveSum cells i (n - i) ≡ liveLen cells i + liveSum cells (suc i) (n - suc i)
+sum-step cells i n h = let e : n - i ≡ suc (n - suc i) = omega arith in rw e (unfold liveSum in refl)
+
+sum-same : (cells cells′ : List ℕ) (i k : ℕ) → ((j : ℕ) → i ≤ j → liveLen cells′ j ≡ liveLen cells j) → liveSum cells′ i k ≡ liveSum cells i k
+unfolding liveSum
+sum-same cells cells′ i zero h = refl
+sum-same cells cells′ i (suc k) h = rw (h i (omega arith), sum-same cells cells′ (suc i) k (λ j l. h j (omega arith)))
+
+sum-later : (cells : List ℕ) (i k d : ℕ) → liveSum cells (i + d) k ≤ liveSum cells i (d + k)
+unfolding liveSum
+sum-later cells i k zero = let e : i + 0 ≡ i = omega arith in let f : 0 + k ≡ k = omega arith in rw (e, f) (omega arith)
+sum-later cells i k (suc d) =
+    let e : i + suc d ≡ suc i + d = omega arith in
+    let f : suc d + k ≡ suc (d + k) = omega arith in
+    rw (e, f) (omega (arith, sum-later cells (suc i) k d))
+
+pub sum-behind : (cells : List ℕ) (i j n : ℕ) → i ≤ j → j ≤ n → liveSum cells j (n - j) ≤ liveSum cells i (n - i)
+sum-behind cells i j n h l =
+    let e : i + (j - i) ≡ j = omega arith in
+    let f : j - i + (n - j) ≡ n - i = omega arith in
+    rw (e, f) at (sum-later cells i (n - j) (j - i))
+
+sum-part : (cells : List ℕ) (i k d : ℕ) → liveSum cells i k ≤ liveSum cells i (k + d)
+unfolding liveSum
+sum-part cells i zero d = omega arith
+sum-part cells i (suc k) d = let f : suc k + d ≡ suc (k + d) = omega arith in rw f (omega (arith, sum-part cells (suc i) k d))
+
+sum-front : (cells : List ℕ) (i e n : ℕ) → i ≤ e → e ≤ n → liveSum cells i (e - i) ≤ liveSum cells i (n - i)
+sum-front cells i e n h l = let f : e - i + (n - e) ≡ n - i = omega arith in rw f at (sum-part cells i (e - i) (n - e))
+
+-- ---- before a leaf
+
+module _ {node : Bool} {cells : List ℕ} {store : Text} {i n : ℕ} {c : Counters} (f : Funded node cells store i n c) where
+  pub funded-ready : node ≡ false → i < n → Good cells store n (c .used) → Ready cells store n i c
+  funded-ready e h g = record {
+    inside = h;
+    good = g;
+    within = λ q. omega (arith, sum-step cells i n h, live-length cells i q, f .within e);
+    most = f .most;
+    ample = omega (arith, f .sum e, f .most);
+    low = omega (arith, f .sum e, f .most, f .wide);
+    rows = omega (arith, f .few);
+    report = omega (arith, f .report);
+  }
+
+  pub funded-node : node ≡ true → {end : ℕ} → i < end → end ≤ n → Good cells store n (c .used) → NodeReady cells store n i end c
+  funded-node e {end} h l g = record {
+    inside = h;
+    ends = l;
+    good = g;
+    texts = omega (arith, sum-front cells i end n (omega arith) l, f .texts);
+    most = f .most;
+    ample = omega (arith, f .flat e);
+    low = omega (arith, f .flat e, f .wide);
+    rows = omega (arith, f .few);
+    report = omega (arith, f .report);
+  }
+
+  pub funded-more : i < n → {P : Pass} {sweep : Bool} {g : Label} {end : ℕ} {ks ks′ : List Known} {m m′ : ℕ → Bool} {report : Text} {cells′ : List ℕ} {store′ report′ : Text} {c′ : Counters}
+      → Visited P node sweep g n end i ks ks′ m m′ cells store report c cells′ store′ report′ c′ → Funded node cells′ store′ (suc i) n c′
+  funded-more h {cells′ = cells′} v =
+      let s = sum-same cells cells′ (suc i) (n - suc i) (λ j l. v .lens j (λ e. omega arith)) in
+      record {
+        sum = λ e. omega (arith, sum-step cells i n h, s, v .paid e, f .sum e, v .store-long);
+        flat = λ e. omega (arith, v .flat e, f .flat e, v .store-long);
+        within = λ e. omega (arith, sum-step cells i n h, s, v .paid e, v .grows, f .within e);
+        texts = omega (arith, sum-step cells i n h, s, f .texts);
+        most = v .size-most;
+        wide = omega (arith, v .store-long, f .wide);
+        few = omega (arith, v .rows, f .few);
+        report = omega (arith, v .report-most, f .report);
+      }
+
+  -- further on, where nothing was done
+  pub funded-skip : {j : ℕ} → i ≤ j → j ≤ n → Funded node cells store j n c
+  funded-skip {j} h l =
+      let s = sum-behind cells i j n h l in
+      record {
+        sum = λ e. omega (arith, s, f .sum e);
+        flat = λ e. omega (arith, f .flat e);
+        within = λ e. omega (arith, s, f .within e);
+        texts = omega (arith, s, f .texts);
+        most = f .most;
+        wide = f .wide;
+        few = omega (arith, f .few);
+        report = omega (arith, f .report);
+      }

@@ -1,0 +1,2 @@
+pub mod Funds
+pub mod Turns

@@ -1,0 +1,4 @@
+// striplog without a policy.
+fn main() {
+    striplog_run::files::run();
+}

@@ -1,0 +1,3 @@
+// striplog: the three files, and what is printed.
+pub mod files;
+pub mod strip;

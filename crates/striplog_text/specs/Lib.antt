@@ -1,0 +1,2 @@
+pub mod Striplog
+pub mod Key
