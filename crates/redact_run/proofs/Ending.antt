@@ -32,7 +32,7 @@ use Rattle.redact_turn.specs.declared.turn.Turn.the-variants.{Reject, Sweep}
 use Rattle.redact_run.specs.Stage.{Stage, Stands, PoisedOr, PassIs, Begun, anyKnown}
 use Rattle.redact_run.proofs.Stages.{segments-same, segments-silent, stands-poised, stands-later, stands-stopped}
 
-pub begun-poised : {s : Separators} {cr : Bool} {text : Text} {segs : List ℕ} {m n turns : ℕ} {β : Buffers} {r : Done} → Segmented segs m n → turns ≤ 130 → Begun s cr text segs m n turns β r → PoisedOr text n β r
+pub begun-poised : {s : Separators} {cr : Bool} {text : Text} {segs : List ℕ} {m n turns : ℕ} {β : Buffers} {r : Done} → Segmented segs m n → turns ≤ 130 → Begun s cr text segs m n turns β r → PoisedOr text segs m n β r
 begun-poised {r = r} z few g = stands-poised r z few (g .stands)
 
 module _ (key : ℕ) (s : Separators) (sweep : Bool) {cr : Bool} {text : Text} {segs : List ℕ} {m n turns : ℕ} {ss : List Segment} {b : Book} {β : Buffers} {r : Done} where

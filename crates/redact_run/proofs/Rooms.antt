@@ -1,8 +1,8 @@
 -- Laws of a turn for which room was made, and of the turn that a rule has. Assumes nothing.
 use mathlib.Core.Path.{_≡_, refl, sym, ap, _∙_}
 use mathlib.Core.Bool.{Bool, true}
-use mathlib.Core.List.{List}
-use Prim.Native.Nat.{ℕ}
+use mathlib.Core.List.{List, []}
+use Prim.Native.Nat.{ℕ, _+_}
 use native.Mathlib.Omega.{arith}
 use Rattle.text.specs.Text.{Text}
 use Rattle.er7.specs.declared.separators.Separators.{Separators}
@@ -21,6 +21,8 @@ use Rattle.redact_row.specs.Reach.{asReach}
 use Rattle.redact_row.specs.declared.reach.Reach.{Reach as HeldReach}
 use Rattle.redact_row.specs.declared.reach.Reach.the-variants.{EachLeaf}
 use Rattle.redact_turn.specs.Turn.{passOf}
+use Rattle.redact_turn.specs.Ordered.{AllOrdered}
+use Rattle.redact_turn.proofs.Skips.{ordered-as}
 use Rattle.redact_turn.specs.Taken.{Buffers, buffers, knowing, Books, Held, Kept, TurnedOr}
 use Rattle.redact_turn.specs.declared.turn.Turn.{Turn}
 use Rattle.redact_turn.specs.declared.turn.Turn.the-variants.{Apply, Collapse}
@@ -94,7 +96,16 @@ module _ (text : Text) (n : ℕ) (named : List Bool) (report bytes : Text) (know
         let q = room-segments w (labelAt segs) (firstLeaf segs) m (z .order) (z .all) (marked named) in
         record { out = λ b k. sym (rw (q, same-pass)) ∙ t b (room-books b k) }
 
+-- the fields are in order behind it, too
+pub room-ordered : {segs : List ℕ} {m n : ℕ} {cells cells′ : List ℕ} {store store′ : Text} {c c′ : Counters} → Segmented segs m n → RoomMade n cells store c cells′ store′ c′
+    → AllOrdered segs cells m → AllOrdered segs cells′ m
+room-ordered {segs} {m} {n} {cells} {cells′} {store} {store′} z w a = record {
+  ordered = λ k h.
+      ordered-as (buffers [] cells store [] [] []) (buffers [] cells′ store′ [] [] [])
+      (λ j x y. w .leaf (marked []) j (omega (arith, z .order (k + 1) m (omega arith) (omega arith), z .all))) (a .ordered k h);
+}
+
 -- the room that a turn asks for
 pub lent-funded : {text : Text} {segs : List ℕ} {m n : ℕ} {store value new : Text} → Lent text segs m n store value new → {named : List Bool} {report bytes : Text} {known cells cells′ : List ℕ} {store′ : Text} {c c′ : Counters}
-    → RoomMade n cells store c cells′ store′ c′ → Poised text n (buffers named cells store report bytes known) c → (node : Bool) → Funded node cells′ store′ 0 n c′
+    → RoomMade n cells store c cells′ store′ c′ → Poised text segs m n (buffers named cells store report bytes known) c → (node : Bool) → Funded node cells′ store′ 0 n c′
 lent-funded l w p node = room-funded w (p .live) (p .most) (l .leaves) (p .rows) (p .report) (l .narrow) node

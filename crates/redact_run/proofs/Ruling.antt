@@ -39,7 +39,7 @@ module _ (key : ℕ) (s : Separators) (cr : Bool) (text : Text) (segs : List ℕ
   rules-start = record { to = λ ss b g. g }
 
   module _ (k : ℕ) (β : Buffers) (r : Done) (w : RulesTo key s cr text segs m n sweep rs k β₀ r₀ β r) where
-    pub rules-poised : Segmented segs m n → k ≤ 130 → Begun s cr text segs m n 0 β₀ r₀ → PoisedOr text n β r
+    pub rules-poised : Segmented segs m n → k ≤ 130 → Begun s cr text segs m n 0 β₀ r₀ → PoisedOr text segs m n β r
     rules-poised z few g = stands-poised r z few (w .to (g .ss) (g .book) (g .stands))
 
     pub rules-more : k < length rs → (z : HeldRule) {turn : Turn} → TurnIs (getD rs k z) turn → (β′ : Buffers) (r′ : Done)

@@ -30,6 +30,7 @@ use Rattle.redact_pass.proofs.Walks.{book-append, stopped-stays}
 use Rattle.redact_turn.specs.Taken.{Buffers, leaves, knowing, Booking, Turned}
 use Rattle.redact_turn.proofs.Turns.{leaves-same, leaves-silent}
 use Rattle.redact_pass.proofs.Visits.{pick-none}
+use Rattle.redact_run.proofs.Orders.{chained-ordered}
 use Rattle.redact_run.specs.Stage.{segmentsOf, Stage, Stands, Poised, PoisedOr, Lent, TurnTaken, PassIs}
 
 -- ---- a pass keeps account of the message's size, and keeps what that rests on
@@ -152,19 +153,20 @@ turn-sound key s cr text ks (Reject a) = unnamed-sound key s cr (forPosture (rej
 turn-sound key s cr text ks Sweep = unnamed-sound key s cr (forSweep s ks)
 
 module _ {s : Separators} {cr : Bool} {text : Text} {segs : List ℕ} {m n turns : ℕ} {ss : List Segment} {b : Book} {β : Buffers} where
-  stage-poised : {c : Counters} → Segmented segs m n → turns ≤ 130 → Stage s cr text segs m n turns ss b β c → Poised text n β c
+  stage-poised : {c : Counters} → Segmented segs m n → turns ≤ 130 → Stage s cr text segs m n turns ss b β c → Poised text segs m n β c
   unfolding segmentsOf
   stage-poised {c} z few g =
       let l = live-printed s cr (marked (β .named)) (g .held .good) (labelAt segs) (firstLeaf segs) m (z .order) (z .all) (z .none-before) in
       record {
         held = g .held;
+        ordered = chained-ordered segs m β (rw (g .segments) (g .chained));
         live = rw (g .size) (rw (g .segments) at l);
         most = g .most;
         rows = omega (arith, g .rows);
         report = omega (arith, g .report);
       }
 
-  pub stands-poised : (r : Done) → Segmented segs m n → turns ≤ 130 → Stands s cr text segs m n turns ss b β r → PoisedOr text n β r
+  pub stands-poised : (r : Done) → Segmented segs m n → turns ≤ 130 → Stands s cr text segs m n turns ss b β r → PoisedOr text segs m n β r
   stands-poised (Going c) z few g = stage-poised z few (g .out)
   stands-poised (Stopped e) z few g = tt
 
@@ -218,8 +220,8 @@ module _ {s : Separators} {cr : Bool} {text : Text} {segs : List ℕ} {m n turns
 pub pass-going : {key : ℕ} {s : Separators} {text : Text} {turn : Turn} {β : Buffers} {r : Done} {P : Pass} → PassIs key s text turn β r P → {c : Counters} → r ≡ Going c → passOf key s text (knowing text β c) turn ≡ P
 pass-going g e = (rw e at g) .out
 
-pub poised-going : (text : Text) (n : ℕ) (β : Buffers) (r : Done) (c : Counters) → PoisedOr text n β r → r ≡ Going c → Poised text n β c
-poised-going text n β r c g e = subst (PoisedOr text n β) e g
+pub poised-going : (text : Text) (segs : List ℕ) (m n : ℕ) (β : Buffers) (r : Done) (c : Counters) → PoisedOr text segs m n β r → r ≡ Going c → Poised text segs m n β c
+poised-going text segs m n β r c g e = subst (PoisedOr text segs m n β) e g
 
 -- the other buffers keep their lengths
 pub lent-kept : {text : Text} {segs : List ℕ} {m n : ℕ} {store value new store′ value′ new′ : Text} → Lent text segs m n store value new → length store′ ≡ length store → length value′ ≡ length value

@@ -25,6 +25,7 @@ use Rattle.redact_pass.specs.declared.leaf.Counters.{Counters}
 use Rattle.redact_pass.specs.declared.leaf.Done.{Done}
 use Rattle.redact_pass.specs.declared.leaf.Done.the-variants.{Going, Stopped}
 use Rattle.redact_turn.specs.Turn.{passOf, TurnHeld}
+use Rattle.redact_turn.specs.Ordered.{AllOrdered}
 use Rattle.redact_turn.specs.declared.turn.Turn.{Turn}
 use Rattle.redact_turn.specs.Taken.{Buffers, leaves, knowing, Books, Held, TurnedOr}
 
@@ -53,16 +54,17 @@ pub record Stands (s : Separators) (cr : Bool) (text : Text) (segs : List ℕ) (
   pub out : StageOr s cr text segs m n turns ss b β r
 
 -- what a turn asks of the buffers and the counters
-pub record Poised (text : Text) (n : ℕ) (β : Buffers) (c : Counters) : Type 0 where
+pub record Poised (text : Text) (segs : List ℕ) (m n : ℕ) (β : Buffers) (c : Counters) : Type 0 where
   pub held : Held text n β c
+  pub ordered : AllOrdered segs (β .cells) m
   pub live : liveSum (β .cells) 0 n ≤ c .size
   pub most : c .size ≤ 49152
   pub rows : c .rows ≤ 2 ^ 30
   pub report : c .«report_len» ≤ 2 ^ 46
 
-abbrev pub PoisedOr : Text → ℕ → Buffers → Done → Type 0
-PoisedOr text n β (Going c) = Poised text n β c
-PoisedOr text n β (Stopped e) = Unit {0}
+abbrev pub PoisedOr : Text → List ℕ → ℕ → ℕ → Buffers → Done → Type 0
+PoisedOr text segs m n β (Going c) = Poised text segs m n β c
+PoisedOr text segs m n β (Stopped e) = Unit {0}
 
 -- what a run asks of its other buffers
 pub record Lent (text : Text) (segs : List ℕ) (m n : ℕ) (store value new : Text) : Type 0 where

@@ -63,7 +63,7 @@ fn turn_once(
     known: &mut [usize],
     c0: Counters,
 ) -> Done
-    requires { ⌜ TurnHeld (now text) turn × Lent (now text) (now segs) (counts .segments) (counts .leaves) (now store) (now value) (now new) × Poised (now text) (counts .leaves) (buffers (now named) (now cells) (now store) (now report) (now bytes) (now known)) c0 ⌝ }
+    requires { ⌜ TurnHeld (now text) turn × Lent (now text) (now segs) (counts .segments) (counts .leaves) (now store) (now value) (now new) × Poised (now text) (now segs) (counts .segments) (counts .leaves) (buffers (now named) (now cells) (now store) (now report) (now bytes) (now known)) c0 ⌝ }
     ensures { λ r. ⌜ TurnTaken (passOf key (counts .separators) (now (text .entry)) (knowing (now (text .entry)) (buffers (now (named .entry)) (now (cells .entry)) (now (store .entry)) (now (report .entry)) (now (bytes .entry)) (now (known .entry))) c0) turn) sweep (now (segs .entry)) (counts .segments) (counts .leaves) (now (text .entry)) (buffers (now (named .entry)) (now (cells .entry)) (now (store .entry)) (now (report .entry)) (now (bytes .entry)) (now (known .entry))) c0 (buffers (now (named .exit)) (now (cells .exit)) (now (store .exit)) (now (report .exit)) (now (bytes .exit)) (now (known .exit))) r ⌝ }
 {
     let n = counts.leaves;
@@ -107,7 +107,7 @@ fn next(
     known: &mut [usize],
     done: Done,
 ) -> Done
-    requires { ⌜ TurnHeld (now text) turn × Lent (now text) (now segs) (counts .segments) (counts .leaves) (now store) (now value) (now new) × PoisedOr (now text) (counts .leaves) (buffers (now named) (now cells) (now store) (now report) (now bytes) (now known)) done ⌝ }
+    requires { ⌜ TurnHeld (now text) turn × Lent (now text) (now segs) (counts .segments) (counts .leaves) (now store) (now value) (now new) × PoisedOr (now text) (now segs) (counts .segments) (counts .leaves) (buffers (now named) (now cells) (now store) (now report) (now bytes) (now known)) done ⌝ }
     ensures { λ r. ⌜ ((cr : Bool) (turns : ℕ) (ss : List Segment) (b : Book) (P : Pass) → PassIs key (counts .separators) (now (text .entry)) turn (buffers (now (named .entry)) (now (cells .entry)) (now (store .entry)) (now (report .entry)) (now (bytes .entry)) (now (known .entry))) done P → Stands (counts .separators) cr (now (text .entry)) (now (segs .entry)) (counts .segments) (counts .leaves) turns ss b (buffers (now (named .entry)) (now (cells .entry)) (now (store .entry)) (now (report .entry)) (now (bytes .entry)) (now (known .entry))) done → Stands (counts .separators) cr (now (text .entry)) (now (segs .entry)) (counts .segments) (counts .leaves) (turns + 1) (overSegments (P .leaf) ss) (bookAll sweep (segmentsEvents (P .says) ss) b) (buffers (now (named .exit)) (now (cells .exit)) (now (store .exit)) (now (report .exit)) (now (bytes .exit)) (now (known .exit))) r) ⌝ }
 {
     match done {
@@ -196,7 +196,7 @@ fn run_turn(
     bytes: &mut [u8],
     known: &mut [usize],
 ) -> Run
-    requires { ⌜ (length (run .named) ≡ 4096) × TurnHeld (now text) turn × Lent (now text) (now segs) (counts .segments) (counts .leaves) (now store) (now value) (now new) × PoisedOr (now text) (counts .leaves) (buffers (run .named) (now cells) (now store) (now report) (now bytes) (now known)) (run .done) ⌝ }
+    requires { ⌜ (length (run .named) ≡ 4096) × TurnHeld (now text) turn × Lent (now text) (now segs) (counts .segments) (counts .leaves) (now store) (now value) (now new) × PoisedOr (now text) (now segs) (counts .segments) (counts .leaves) (buffers (run .named) (now cells) (now store) (now report) (now bytes) (now known)) (run .done) ⌝ }
     ensures { λ r. ⌜ (length (r .named) ≡ 4096) × ((cr : Bool) (turns : ℕ) (ss : List Segment) (b : Book) (P : Pass) → PassIs key (counts .separators) (now (text .entry)) turn (buffers (run .named) (now (cells .entry)) (now (store .entry)) (now (report .entry)) (now (bytes .entry)) (now (known .entry))) (run .done) P → Stands (counts .separators) cr (now (text .entry)) (now (segs .entry)) (counts .segments) (counts .leaves) turns ss b (buffers (run .named) (now (cells .entry)) (now (store .entry)) (now (report .entry)) (now (bytes .entry)) (now (known .entry))) (run .done) → Stands (counts .separators) cr (now (text .entry)) (now (segs .entry)) (counts .segments) (counts .leaves) (turns + 1) (overSegments (P .leaf) ss) (bookAll sweep (segmentsEvents (P .says) ss) b) (buffers (r .named) (now (cells .exit)) (now (store .exit)) (now (report .exit)) (now (bytes .exit)) (now (known .exit))) (r .done)) ⌝ }
 {
     let mut named = run.named;

@@ -1,2 +1,4 @@
 pub mod Funds
+pub mod Idle
 pub mod Turns
+pub mod Skips

@@ -56,6 +56,7 @@ module _ (P : Pass) (node sweep : Bool) (g : Label) (n first end : ℕ) (text : 
     low = omega arith;
     high = h;
     walked = λ b k. record { book = b; stands = k; to = leaves-start P sweep g n first end (leaves β₀) b h };
+    ahead = λ j a k. refl;
     held = d;
     funded = f;
     kept = kept-none β₀;
@@ -78,6 +79,7 @@ module _ (P : Pass) (node sweep : Bool) (g : Label) (n first end : ℕ) (text : 
                 stands = u .book (t .book) (t .stands);
                 to = rw add-one (leaves-more P sweep g n first end l (t .to) h (record { here = u .here; other = u .other; book = unfold saidOf in refl }));
               };
+          ahead = λ j a k. u .other j k (λ e. omega arith) ∙ w .ahead j (omega arith) k;
           held = record { good = u .good; known = v .held; marks = omega (arith, v .named-long, w .held .marks) };
           funded = rw add-one (funded-more (w .funded) (omega arith) u);
           kept = kept-then (w .kept) (record { place = u .place; cells = u .cells-long; store = u .store-long; report = u .report-long; named = v .named-long });
@@ -122,6 +124,7 @@ module _ (P : Pass) (g : Label) (same : (x : Leaf) (xs : List Leaf) → P .leaf 
     low = h;
     high = omega arith;
     walked = λ b k. record { book = b; stands = k; to = leaves-skip sweep n first end (leaves β) b h };
+    ahead = λ j a k. refl;
     held = d;
     funded = funded-skip f h l;
     kept = kept-none β;
@@ -174,6 +177,7 @@ module _ (key : ℕ) (s : Separators) (text : Text) (turn : Turn) (sweep : Bool)
   turning-start d f = record {
     high = omega arith;
     walked = λ b k. record { book = b; stands = k; to = segments-start (passOf key s text (knowing text β₀ c₀) turn) sweep (labelAt segs) (firstLeaf segs) n m (leaves β₀) b };
+    ahead = λ j a k. refl;
     held = d;
     funded = rw (z .none-before) f;
     kept = kept-none β₀;
@@ -203,6 +207,7 @@ module _ (key : ℕ) (s : Separators) (text : Text) (turn : Turn) (sweep : Bool)
                 stands = a .stands;
                 to = rw add-one (segments-more (passOf key s text (knowing text β₀ c₀) turn) sweep (labelAt segs) (firstLeaf segs) n m (z .order) (z .all) (t .to) h (ended (a .to)));
               };
+          ahead = λ j a k. v .passing .ahead j a k ∙ w .ahead j (omega (arith, segment-low)) k;
           held = v .passing .held;
           funded = v .passing .funded;
           kept = kept-then (w .kept) (v .passing .kept);

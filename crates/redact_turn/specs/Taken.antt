@@ -2,7 +2,7 @@
 use mathlib.Core.Path.{_≡_}
 use mathlib.Core.Bool.{Bool}
 use mathlib.Core.List.{List}
-use Prim.Native.Nat.{ℕ, _+_, _-_, _*_, _≤_}
+use Prim.Native.Nat.{ℕ, _+_, _-_, _*_, _≤_, _<_}
 use lib.ListN.{length}
 use Rattle.text.specs.Text.{Text}
 use Rattle.er7.specs.declared.separators.Separators.{Separators}
@@ -87,6 +87,7 @@ pub record Passing (P : Pass) (node sweep : Bool) (g : Label) (n first end i : �
   pub low : first ≤ i
   pub high : i ≤ end
   pub walked : (b : Book) → Books text β₀ c₀ b → WalkedTo P sweep g n first end i text β₀ β c b
+  pub ahead : (j : ℕ) → i ≤ j → j < n → leaves β j ≡ leaves β₀ j
   pub held : Held text n β c
   pub funded : Funded node (β .cells) (β .store) i n c
   pub kept : Kept β₀ β
@@ -119,6 +120,7 @@ pub record SegmentsWalked (P : Pass) (sweep : Bool) (segs : List ℕ) (m n k : �
 pub record Turning (key : ℕ) (s : Separators) (text : Text) (turn : Turn) (sweep : Bool) (segs : List ℕ) (m n k : ℕ) (β₀ : Buffers) (c₀ : Counters) (β : Buffers) (c : Counters) : Type 0 where
   pub high : k ≤ m
   pub walked : (b : Book) → Books text β₀ c₀ b → SegmentsWalked (passOf key s text (knowing text β₀ c₀) turn) sweep segs m n k text β₀ β c b
+  pub ahead : (j : ℕ) → firstLeaf segs k ≤ j → j < n → leaves β j ≡ leaves β₀ j
   pub held : Held text n β c
   pub funded : Funded (collapses turn) (β .cells) (β .store) (firstLeaf segs k) n c
   pub kept : Kept β₀ β

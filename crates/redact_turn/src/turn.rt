@@ -1,7 +1,9 @@
 // A turn of a run over all leaves of a message.
 use er7::separators::Separators;
 use er7_redact::action::Action;
+use er7_redact::action::is_null;
 use er7_redact::policy::Rule;
+use er7_render::render::place_at;
 use redact_node::node::collapse_leaf;
 use redact_pass::leaf::Counters;
 use redact_pass::leaf::Done;
@@ -10,7 +12,9 @@ use redact_pass::unnamed::reject_leaf;
 use redact_pass::unnamed::sweep_leaf;
 use redact_row::reach::Label;
 use redact_row::reach::Reach;
+use redact_row::reach::reaches_place;
 use redact_row::reach::reaches_segment;
+use redact_row::reach::touchable;
 ghost use mathlib.Core.Path.{_≡_};
 ghost use mathlib.Core.Bool.{true};
 ghost use Prim.Native.Nat.{_+_, _*_, _≤_, _<_};
@@ -20,7 +24,8 @@ ghost use Rattle.er7_render.specs.Rendered.{BytesNamed, AllNamed};
 ghost use Rattle.redact_row.specs.Reach.{asLabel};
 ghost use Rattle.redact_pass.specs.State.{Funded};
 ghost use Rattle.redact_turn.specs.Turn as Turns;
-ghost use Rattle.redact_turn.specs.Turn.{passOf, collapses, TurnHeld};
+ghost use Rattle.redact_turn.specs.Turn.{passOf, collapses, TurnHeld, fieldOf, works};
+ghost use Rattle.redact_turn.specs.Ordered.{Rising, Ordered, AllOrdered, StartAt, isBehind, Skipped};
 ghost use Rattle.redact_turn.specs.Taken.{buffers, knowing, Held, TurnVisit, SegmentPassedOr, TurnedOr};
 
 // A rule on each leaf, a rule on nodes, a rejecting posture, or the sweep.
@@ -57,6 +62,86 @@ fn enters(turn: Turn, text: &[u8], g: Label) -> bool
         Turn::Reject(_) => true,
         Turn::Sweep => true,
     }
+}
+
+// The field that the path of a turn names, or 0.
+fn field_of(turn: Turn) -> u64
+    ensures { λ r. ⌜ r ≡ fieldOf turn ⌝ }
+{
+    match turn {
+        Turn::Apply(rule) => rule.path.field,
+        Turn::Collapse(rule, _) => rule.path.field,
+        Turn::Reject(_) => 0,
+        Turn::Sweep => 0,
+    }
+}
+
+// The index of the first leaf that may be of the field: each field before it has a leaf at least.
+fn start_at(field: u64, first: usize, end: usize) -> usize
+    requires { ⌜ first ≤ end ⌝ }
+    ensures { λ r. ⌜ StartAt field first end r ⌝ }
+{
+    if field == 0 {
+        return first;
+    }
+    let before = field - 1;
+    if ((end - first) as u64) < before {
+        return end;
+    }
+    first + (before as usize)
+}
+
+// Whether a turn may do something to leaf i of the segment g.
+fn works_on(turn: Turn, g: Label, named: bool, i: usize, cells: &[usize]) -> bool
+    requires { ⌜ i * 8 + 8 ≤ length (now cells) ⌝ }
+    ensures { λ r. ⌜ r ≡ works turn (asLabel g) named (now (cells .entry)) i ⌝ }
+{
+    let at = i * 8;
+    let long = cells[at + 2] != 0;
+    let live = cells[at + 3] == 0;
+    let p = place_at(cells, i);
+    let touched = live & touchable(g, p);
+    match turn {
+        Turn::Apply(rule) => touched & reaches_place(rule.path, p),
+        Turn::Collapse(rule, _) => touched & reaches_place(rule.path, p),
+        Turn::Reject(a) => touched & !named & (long | is_null(a)),
+        Turn::Sweep => touched & !named & long,
+    }
+}
+
+// Whether leaf i has not vanished and stands behind the field, which is 0 for none.
+fn is_behind(field: u64, i: usize, cells: &[usize]) -> bool
+    requires { ⌜ i * 8 + 8 ≤ length (now cells) ⌝ }
+    ensures { λ r. ⌜ r ≡ isBehind field (now (cells .entry)) i ⌝ }
+{
+    let at = i * 8;
+    (field != 0) & (cells[at + 3] == 0) & (field < (cells[at + 4] as u64))
+}
+
+// The index of the next leaf of the segment g, from index i on, to which a turn may do something; or end.
+fn skip(
+    turn: Turn,
+    field: u64,
+    g: Label,
+    named: &[bool],
+    cells: &[usize],
+    i: usize,
+    end: usize,
+) -> usize
+    requires { ⌜ (field ≡ fieldOf turn) × (i ≤ end) × (end * 8 ≤ length (now cells)) × (end ≤ length (now named)) × Rising (now cells) i end ⌝ }
+    ensures { λ r. ⌜ Skipped turn (asLabel g) (now (named .entry)) (now (cells .entry)) i end r ⌝ }
+{
+    let mut j = i;
+    while j < end {
+        if works_on(turn, g, named[j], j, cells) {
+            return j;
+        }
+        if is_behind(field, j, cells) {
+            return end;
+        }
+        j += 1;
+    }
+    j
 }
 
 // A turn on leaf i of n of the segment g, whose leaves end before index end.
@@ -179,11 +264,13 @@ fn pass_leaves(
     known: &mut [usize],
     c0: Counters,
 ) -> Done
-    requires { ⌜ TurnHeld (now text) turn × (Turns.enters (now text) turn (asLabel g) ≡ true) × (first ≤ end) × (end ≤ n) × Held (now text) n (buffers (now named) (now cells) (now store) (now report) (now bytes) (now known)) c0 × Funded (collapses turn) (now cells) (now store) first n c0 × (length (now text) ≤ 32768) × (49152 ≤ length (now value)) × (49152 ≤ length (now new)) ⌝ }
+    requires { ⌜ TurnHeld (now text) turn × (Turns.enters (now text) turn (asLabel g) ≡ true) × (first ≤ end) × (end ≤ n) × Ordered (now cells) first end × Held (now text) n (buffers (now named) (now cells) (now store) (now report) (now bytes) (now known)) c0 × Funded (collapses turn) (now cells) (now store) first n c0 × (length (now text) ≤ 32768) × (49152 ≤ length (now value)) × (49152 ≤ length (now new)) ⌝ }
     ensures { λ r. ⌜ SegmentPassedOr key s (now (text .entry)) turn sweep (asLabel g) n first end (buffers (now (named .entry)) (now (cells .entry)) (now (store .entry)) (now (report .entry)) (now (bytes .entry)) (now (known .entry))) c0 (buffers (now (named .exit)) (now (cells .exit)) (now (store .exit)) (now (report .exit)) (now (bytes .exit)) (now (known .exit))) r ⌝ }
 {
+    let field = field_of(turn);
+    let start = start_at(field, first, end);
     let mut c = c0;
-    let mut i = first;
+    let mut i = skip(turn, field, g, named, cells, start, end);
     while i < end {
         match visit(
             key,
@@ -212,7 +299,7 @@ fn pass_leaves(
                 return Done::Stopped(refusal);
             }
         }
-        i += 1;
+        i = skip(turn, field, g, named, cells, i + 1, end);
     }
     Done::Going(c)
 }
@@ -237,7 +324,7 @@ fn pass_segment(
     known: &mut [usize],
     c: Counters,
 ) -> Done
-    requires { ⌜ TurnHeld (now text) turn × BytesNamed (now segs) k × (k * 8 + 16 ≤ length (now segs)) × (firstLeaf (now segs) k ≤ firstLeaf (now segs) (k + 1)) × (firstLeaf (now segs) (k + 1) ≤ n) × Held (now text) n (buffers (now named) (now cells) (now store) (now report) (now bytes) (now known)) c × Funded (collapses turn) (now cells) (now store) (firstLeaf (now segs) k) n c × (length (now text) ≤ 32768) × (49152 ≤ length (now value)) × (49152 ≤ length (now new)) ⌝ }
+    requires { ⌜ TurnHeld (now text) turn × BytesNamed (now segs) k × (k * 8 + 16 ≤ length (now segs)) × (firstLeaf (now segs) k ≤ firstLeaf (now segs) (k + 1)) × (firstLeaf (now segs) (k + 1) ≤ n) × Ordered (now cells) (firstLeaf (now segs) k) (firstLeaf (now segs) (k + 1)) × Held (now text) n (buffers (now named) (now cells) (now store) (now report) (now bytes) (now known)) c × Funded (collapses turn) (now cells) (now store) (firstLeaf (now segs) k) n c × (length (now text) ≤ 32768) × (49152 ≤ length (now value)) × (49152 ≤ length (now new)) ⌝ }
     ensures { λ r. ⌜ SegmentPassedOr key s (now (text .entry)) turn sweep (labelAt (now (segs .entry)) k) n (firstLeaf (now (segs .entry)) k) (firstLeaf (now (segs .entry)) (k + 1)) (buffers (now (named .entry)) (now (cells .entry)) (now (store .entry)) (now (report .entry)) (now (bytes .entry)) (now (known .entry))) c (buffers (now (named .exit)) (now (cells .exit)) (now (store .exit)) (now (report .exit)) (now (bytes .exit)) (now (known .exit))) r ⌝ }
 {
     let g = label_at(segs, k);
@@ -288,7 +375,7 @@ pub fn take_turn(
     known: &mut [usize],
     c0: Counters,
 ) -> Done
-    requires { ⌜ TurnHeld (now text) turn × AllNamed (now segs) m × Segmented (now segs) m n × Held (now text) n (buffers (now named) (now cells) (now store) (now report) (now bytes) (now known)) c0 × Funded (collapses turn) (now cells) (now store) 0 n c0 × (length (now text) ≤ 32768) × (49152 ≤ length (now value)) × (49152 ≤ length (now new)) ⌝ }
+    requires { ⌜ TurnHeld (now text) turn × AllNamed (now segs) m × Segmented (now segs) m n × AllOrdered (now segs) (now cells) m × Held (now text) n (buffers (now named) (now cells) (now store) (now report) (now bytes) (now known)) c0 × Funded (collapses turn) (now cells) (now store) 0 n c0 × (length (now text) ≤ 32768) × (49152 ≤ length (now value)) × (49152 ≤ length (now new)) ⌝ }
     ensures { λ r. ⌜ TurnedOr (passOf key s (now (text .entry)) (knowing (now (text .entry)) (buffers (now (named .entry)) (now (cells .entry)) (now (store .entry)) (now (report .entry)) (now (bytes .entry)) (now (known .entry))) c0) turn) sweep (now (segs .entry)) m n (now (text .entry)) (buffers (now (named .entry)) (now (cells .entry)) (now (store .entry)) (now (report .entry)) (now (bytes .entry)) (now (known .entry))) c0 (buffers (now (named .exit)) (now (cells .exit)) (now (store .exit)) (now (report .exit)) (now (bytes .exit)) (now (known .exit))) r ⌝ }
 {
     let mut c = c0;

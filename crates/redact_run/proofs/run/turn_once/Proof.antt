@@ -6,13 +6,13 @@ use Rattle.redact_run.proofs.run.turn_once.Reads as reads
 use Rattle.redact_run.proofs.run.turn_once.Lts as lts
 use Rattle.redact_room.proofs.room.make_room.Reads as make-room-reads
 use Rattle.redact_turn.proofs.turn.take_turn.Reads as take-turn-reads
-use Rattle.redact_run.proofs.Rooms.{room-held, room-turned, lent-funded}
+use Rattle.redact_run.proofs.Rooms.{room-ordered, room-held, room-turned, lent-funded}
 
 make-room-requires : tie.Need-make-room-requires
 make-room-requires c κs = (c .before .before .before .before .before .before .before .before .before .before .before .before .before .pre .2 .held .good, omega (arith, c .before .before .before .before .before .before .before .before .before .before .before .before .before .pre .2 .live, c .before .before .before .before .before .before .before .before .before .before .before .before .before .pre .2 .most), c .before .before .before .before .before .before .before .before .before .before .before .before .before .pre .1 .wide, c .before .before .before .before .before .before .before .before .before .before .before .before .before .pre .1 .narrow, c .before .before .before .before .before .before .before .before .before .before .before .before .before .pre .1 .value-room)
 
 take-turn-requires : tie.Need-take-turn-requires
-take-turn-requires c κs = (c .before .before .before .before .before .before .before .before .before .before .before .before .before .before .before .before .before .before .before .before .before .before .before .before .before .before .before .before .pre .0, c .before .before .before .before .before .before .before .before .before .before .before .before .before .before .before .before .before .before .before .before .before .before .before .before .before .before .before .before .pre .1 .named, c .before .before .before .before .before .before .before .before .before .before .before .before .before .before .before .before .before .before .before .before .before .before .before .before .before .before .before .before .pre .1 .segmented, room-held _ _ _ _ _ _ _ _ _ _ _ _ (c .before .before .before .before .before .before .before .before .before .before .before .before .before .before .make-room .ensures) (c .before .before .before .before .before .before .before .before .before .before .before .before .before .before .before .before .before .before .before .before .before .before .before .before .before .before .before .before .pre .2 .held), lent-funded (c .before .before .before .before .before .before .before .before .before .before .before .before .before .before .before .before .before .before .before .before .before .before .before .before .before .before .before .before .pre .1) (c .before .before .before .before .before .before .before .before .before .before .before .before .before .before .make-room .ensures) (c .before .before .before .before .before .before .before .before .before .before .before .before .before .before .before .before .before .before .before .before .before .before .before .before .before .before .before .before .pre .2) _, c .before .before .before .before .before .before .before .before .before .before .before .before .before .before .before .before .before .before .before .before .before .before .before .before .before .before .before .before .pre .1 .policy, omega (arith, c .before .before .before .before .before .before .before .before .before .before .before .before .before .before .before .before .before .before .before .before .before .before .before .before .before .before .before .before .pre .1 .value-room, c .before .before .before .before .before .before .before .before .before .before .before .before .before .before .make-room, c .before .before .before .before .before .before .before .before .before .value), omega (arith, c .before .before .before .before .before .before .before .before .before .before .before .before .before .before .before .before .before .before .before .before .before .before .before .before .before .before .before .before .pre .1 .new-room))
+take-turn-requires c κs = (c .before .before .before .before .before .before .before .before .before .before .before .before .before .before .before .before .before .before .before .before .before .before .before .before .before .before .before .before .pre .0, c .before .before .before .before .before .before .before .before .before .before .before .before .before .before .before .before .before .before .before .before .before .before .before .before .before .before .before .before .pre .1 .named, c .before .before .before .before .before .before .before .before .before .before .before .before .before .before .before .before .before .before .before .before .before .before .before .before .before .before .before .before .pre .1 .segmented, room-ordered (c .before .before .before .before .before .before .before .before .before .before .before .before .before .before .before .before .before .before .before .before .before .before .before .before .before .before .before .before .pre .1 .segmented) (c .before .before .before .before .before .before .before .before .before .before .before .before .before .before .make-room .ensures) (c .before .before .before .before .before .before .before .before .before .before .before .before .before .before .before .before .before .before .before .before .before .before .before .before .before .before .before .before .pre .2 .ordered), room-held _ _ _ _ _ _ _ _ _ _ _ _ (c .before .before .before .before .before .before .before .before .before .before .before .before .before .before .make-room .ensures) (c .before .before .before .before .before .before .before .before .before .before .before .before .before .before .before .before .before .before .before .before .before .before .before .before .before .before .before .before .pre .2 .held), lent-funded (c .before .before .before .before .before .before .before .before .before .before .before .before .before .before .before .before .before .before .before .before .before .before .before .before .before .before .before .before .pre .1) (c .before .before .before .before .before .before .before .before .before .before .before .before .before .before .make-room .ensures) (c .before .before .before .before .before .before .before .before .before .before .before .before .before .before .before .before .before .before .before .before .before .before .before .before .before .before .before .before .pre .2) _, c .before .before .before .before .before .before .before .before .before .before .before .before .before .before .before .before .before .before .before .before .before .before .before .before .before .before .before .before .pre .1 .policy, omega (arith, c .before .before .before .before .before .before .before .before .before .before .before .before .before .before .before .before .before .before .before .before .before .before .before .before .before .before .before .before .pre .1 .value-room, c .before .before .before .before .before .before .before .before .before .before .before .before .before .before .make-room, c .before .before .before .before .before .before .before .before .before .value), omega (arith, c .before .before .before .before .before .before .before .before .before .before .before .before .before .before .before .before .before .before .before .before .before .before .before .before .before .before .before .before .pre .1 .new-room))
 
 same-length : tie.Need-same-length
 same-length c = search needs
