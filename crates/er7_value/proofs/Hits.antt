@@ -1,7 +1,7 @@
 -- Laws of `begins`, `endsWord` and `findWord`: from an index on, over plain values. Assumes nothing.
-use mathlib.Core.Path.{_≡_, refl, sym, ap, _∙_}
+use mathlib.Core.Path.{_≡_, refl, sym, _∙_}
 use mathlib.Core.Bool.{Bool, true, false, not, _&&_}
-use mathlib.Core.List.{_∷_}
+use mathlib.Core.List.{[], _∷_}
 use Prim.Native.Nat.{ℕ, zero, suc, _+_, _-_, _≤_, _<_}
 use native.Mathlib.Nat.{add-zero}
 use native.Mathlib.Numerals.{add-one}
@@ -11,13 +11,13 @@ use lib.Seq.{drop-drop, getD-take, getD-drop}
 use Rattle.text.specs.declared.bytes.Class.the-variants.{Alphanumeric}
 use Rattle.text.specs.Text.{Text, isIn, isAlphanumeric, begins, part}
 use Rattle.text.proofs.Runs.{drop-step}
-use Rattle.text.proofs.Words.{same-eq, same-longer, Comparing, comparing-start, comparing-more, comparing-differs, comparing-all}
+use Rattle.text.proofs.Words.{same-longer, Comparing, comparing-start, comparing-more, comparing-differs, comparing-all}
 use Rattle.message_model.specs.Value.{endsWord, findWord, isWholeWord}
 use Rattle.er7_value.specs.Word.{letterBefore, standsAlone}
 
 -- ---- a hit
 
-part-full : (t : Text) (i n : ℕ) → n ≤ length t - i → length (part t i n) ≡ n
+part-full : (t : Text) (i n : ℕ) → i + n ≤ length t → length (part t i n) ≡ n
 unfolding part
 part-full t i n h = simp (length-take, length-drop) (omega arith)
 
@@ -25,13 +25,13 @@ part-byte : (t : Text) (i n j : ℕ) → j < n → getD (part t i n) j 0 ≡ get
 unfolding part
 part-byte t i n j h = getD-take n (drop i t) j 0 h ∙ getD-drop i t j 0
 
-module _ (v t : Text) (i : ℕ) where
-  pub hit-short : length t - i < length v → false ≡ begins v (drop i t)
-  unfolding begins
-  hit-short h = sym (same-longer v (take (length v) (drop i t)) (λ e. absurd (omega (arith, e, length-take (length v) (drop i t), length-drop i t))))
+hit-short : (v t : Text) → length t < length v → begins v t ≡ false
+unfolding begins
+hit-short v t h = same-longer v (take (length v) t) (λ e. absurd (omega (arith, e, length-take (length v) t)))
 
+module _ (v t : Text) (i : ℕ) where
   -- v stands in t from index i on, compared up to index j
-  pub hit-start : length v ≤ length t - i → Comparing v (part t i (length v)) 0
+  pub hit-start : i + length v ≤ length t → Comparing v (part t i (length v)) 0
   hit-start h = comparing-start v (part t i (length v)) (sym (part-full t i (length v) h))
 
   module _ {j : ℕ} (g : Comparing v (part t i (length v)) j) where
@@ -45,13 +45,6 @@ module _ (v t : Text) (i : ℕ) where
     pub hit-all : length v ≤ j → true ≡ begins v (drop i t)
     unfolding begins part
     hit-all h = comparing-all g h
-
-  -- a hit lies in the text
-  pub hit-fits : true ≡ begins v (drop i t) → i ≤ length t → i + length v ≤ length t
-  unfolding begins
-  hit-fits e h =
-      let q : length v ≡ length (take (length v) (drop i t)) = ap length (same-eq v (take (length v) (drop i t)) (sym e)) in
-      omega (arith, q, length-take (length v) (drop i t), length-drop i t)
 
 -- ---- what stands around a hit
 
@@ -103,6 +96,12 @@ find-skip : (v : Text) (a : Bool) (k x : ℕ) (t : Text) → findWord v a (suc k
 unfolding findWord
 find-skip v a k x t = refl
 
+-- in fewer bytes than v has, and in none, nothing is found
+find-short : (v : Text) (a : Bool) (t : Text) → length t < 1 + (length v - 1) → findWord v a 0 t ≡ false
+unfolding findWord
+find-short v a [] h = refl
+find-short v a (x ∷ t) h = find-on v a x t (hit-short v (x ∷ t) (omega arith)) ∙ find-short v (isAlphanumeric x) t (omega arith)
+
 -- v is found in t from index i on
 unfoldable pub foundFrom : Text → Text → ℕ → Bool
 foundFrom v t i = findWord v (letterBefore t i) 0 (drop i t)
@@ -146,16 +145,15 @@ module _ {v t : Text} {i : ℕ} (g : Searching v t i) where
       unfolding foundFrom
       searching-whole f = sym (g .is ∙ rw (drop-step t i h) (find-whole v (letterBefore t i) (getD t i 0) (drop (i + 1) t) begins-here (alone-here ∙ sym f)))
 
-      pub searching-behind : {k : ℕ} → false ≡ standsAlone t i (i + length v) → k ≡ 1 + (length v - 1) → Searching v t (i + k)
+      pub searching-behind : {k : ℕ} → false ≡ standsAlone t i (i + length v) → k ≡ 1 + (length v - 1) → i + k ≤ length t → Searching v t (i + k)
       unfolding foundFrom
-      searching-behind {k} f n =
-          let l : i + length v ≤ length t = hit-fits v t i e (g .within) in
+      searching-behind {k} f n l =
           let m : i + k ≡ i + 1 + (length v - 1) = omega arith in record {
             within = omega arith;
             is = g .is
                 ∙ rw (drop-step t i h) (find-behind v (letterBefore t i) (getD t i 0) (drop (i + 1) t) begins-here (alone-here ∙ sym f) ∙ rw (← before-next t i, m) (skip v t (i + 1) (length v - 1) (omega arith)));
           }
 
-  pub searching-end : length t ≤ i → false ≡ isWholeWord v t
-  unfolding foundFrom findWord
-  searching-end h = sym (g .is ∙ rw (drop-of-length-le t h))
+  pub searching-end : {k : ℕ} → k ≡ 1 + (length v - 1) → length t < i + k → false ≡ isWholeWord v t
+  unfolding foundFrom
+  searching-end n h = sym (g .is ∙ find-short v (letterBefore t i) (drop i t) (rw (length-drop i t) (omega arith)))

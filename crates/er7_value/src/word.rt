@@ -36,12 +36,9 @@ pub fn lower_value(text: &[u8], s: Separators, out: &mut [u8], at: usize) -> usi
 
 // Whether v stands in t from index i on.
 fn begins_at(v: &[u8], t: &[u8], i: usize) -> bool
-    requires { ⌜ i ≤ length (now t) ⌝ }
+    requires { ⌜ i + length (now v) ≤ length (now t) ⌝ }
     ensures { λ r. ⌜ r ≡ begins (now (v .entry)) (drop i (now (t .entry))) ⌝ }
 {
-    if t.len() - i < v.len() {
-        return false;
-    }
     let mut j = 0;
     while j < v.len() {
         if v[j] != t[i + j] {
@@ -100,8 +97,12 @@ pub fn is_whole_word(v: &[u8], t: &[u8]) -> bool
     ensures { λ r. ⌜ r ≡ isWholeWord (now (v .entry)) (now (t .entry)) ⌝ }
 {
     let step = step_behind(v.len());
+    if t.len() < step {
+        return false;
+    }
+    let end = t.len() - step + 1;
     let mut i = 0;
-    while i < t.len() {
+    while i < end {
         if begins_at(v, t, i) {
             if stands_alone(t, i, i + v.len()) {
                 return true;
