@@ -1,11 +1,13 @@
 -- Laws of `encode`: lengths, and a turn of the loops over plain values. Assumes nothing.
 use mathlib.Core.Path.{_≡_, refl, sym, ap, _∙_}
+use mathlib.Core.Bool.{Bool, true, false, cond, _||_}
 use mathlib.Core.List.{[], _∷_, _++_, append-nil, append-assoc}
 use mathlib.Core.Option.{Option, none, some}
 use Prim.Native.Nat.{ℕ, _+_, _*_, _≤_, _<_}
 use native.Mathlib.Numerals.{add-one}
 use native.Mathlib.Omega.{arith}
 use lib.ListN.{length, take, drop, getD, length-append, take-append-drop}
+use lib.Dec.{eqb}
 use lib.Seq.{take-suc, take-all}
 use Rattle.text.specs.Text.{Text, Wrote}
 use Rattle.text.proofs.Writes.{wrote-none, wrote-then, wrote-length}
@@ -32,6 +34,21 @@ byte-itself s b e = go (letterOf s b) e
     go : (o : Option ℕ) → NoDelimiter ≡ heldLetter o → encodeByte s b o ≡ b ∷ []
     go none e = refl
     go (some x) e = cc
+
+-- its length by one test of the five delimiters
+pub byte-tested : (s : Separators) (b : ℕ)
+    → length (encodeByte s b (letterOf s b)) ≡ cond (eqb b (s .field) || eqb b (s .component) || eqb b (s .subcomponent) || eqb b (s .repetition) || eqb b (s .escape)) 3 1
+unfolding letterOf encodeByte
+byte-tested s b = go (eqb b (s .field)) (eqb b (s .component)) (eqb b (s .subcomponent)) (eqb b (s .repetition)) (eqb b (s .escape))
+  where
+    go : (f c u r e : Bool)
+        → length (encodeByte s b (cond f (some 0x46) (cond c (some 0x53) (cond u (some 0x54) (cond r (some 0x52) (cond e (some 0x45) none)))))) ≡ cond (f || c || u || r || e) 3 1
+    go true c u r e = refl
+    go false true u r e = refl
+    go false false true r e = refl
+    go false false false true e = refl
+    go false false false false true = refl
+    go false false false false false = refl
 
 byte-length : (s : Separators) (b : ℕ) (o : Option ℕ) → length (encodeByte s b o) ≤ 3
 unfolding encodeByte

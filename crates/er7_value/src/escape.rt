@@ -161,10 +161,15 @@ pub fn value(text: &[u8], s: Separators, out: &mut [u8], at: usize) -> usize
 fn byte_len(s: Separators, b: u8) -> usize
     ensures { λ r. ⌜ (r ≡ length (encodeByte s b (letterOf s b))) × (r ≤ 3) ⌝ }
 {
-    match letter_of(s, b) {
-        Letter::Of(_) => 3,
-        Letter::NoDelimiter => 1,
+    if (b == s.field)
+        | (b == s.component)
+        | (b == s.subcomponent)
+        | (b == s.repetition)
+        | (b == s.escape)
+    {
+        return 3;
     }
+    1
 }
 
 // The length of what encode writes.
