@@ -50,15 +50,27 @@ byte-tested s b = go (eqb b (s .field)) (eqb b (s .component)) (eqb b (s .subcom
     go false false false false true = refl
     go false false false false false = refl
 
-byte-length : (s : Separators) (b : ℕ) (o : Option ℕ) → length (encodeByte s b o) ≤ 3
+byte-length : (s : Separators) (b : ℕ) (o : Option ℕ) → 1 ≤ length (encodeByte s b o)
 unfolding encodeByte
 byte-length s b (some l) = omega arith
 byte-length s b none = omega arith
 
-pub encode-length : (s : Separators) (v : Text) → length (encode s v) ≤ 3 * length v
+-- ---- a value
+
+encode-length : (s : Separators) (v : Text) → length v ≤ length (encode s v)
 unfolding encode
 encode-length s [] = omega arith
 encode-length s (b ∷ v) = simp length-append (omega (arith, byte-length s b (letterOf s b), encode-length s v))
+
+-- what is as long as the value is the value
+pub encode-same : (s : Separators) (v : Text) → length (encode s v) ≡ length v → encode s v ≡ v
+unfolding encode encodeByte
+encode-same s [] e = refl
+encode-same s (b ∷ v) e = go (letterOf s b) e (encode-same s v) (encode-length s v)
+  where
+    go : (o : Option ℕ) → length (encodeByte s b o ++ encode s v) ≡ length (b ∷ v) → (length (encode s v) ≡ length v → encode s v ≡ v) → length v ≤ length (encode s v) → encodeByte s b o ++ encode s v ≡ b ∷ v
+    go none e f l = ap (λ (w : Text). b ∷ w) (f (omega arith))
+    go (some x) e f l = absurd (omega arith)
 
 -- ---- up to an index
 

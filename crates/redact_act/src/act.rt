@@ -39,7 +39,7 @@ fn put_null(store: &mut [u8], len: usize, used: usize, size: usize) -> Fate
     Fate::Becomes(2)
 }
 
-// Writes the value w, encoded, to store from index used on, in the place of a leaf of len bytes.
+// Writes the value w, encoded, to store from index used on, in the place of a leaf of len bytes; where nothing is escaped, by a copy.
 fn put_encoded(
     w: &[u8],
     s: Separators,
@@ -54,6 +54,10 @@ fn put_encoded(
     let n = escape::encoded_len(w, s);
     if 49152 < size - len + n {
         return Fate::TooLong;
+    }
+    if n == w.len() {
+        copy_at(store, used, w);
+        return Fate::Becomes(n);
     }
     escape::encode(w, s, store, used);
     Fate::Becomes(n)

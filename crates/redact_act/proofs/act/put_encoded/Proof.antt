@@ -1,10 +1,11 @@
-use native.Mathlib.Omega.{arith}
 use borrow.Author.Needs.{needs}
 use Rattle.redact_act.proofs.act.put_encoded.Statement.{statement}
 use Rattle.redact_act.proofs.act.put_encoded.Tie as tie
-use Rattle.redact_act.proofs.act.put_encoded.Reads as reads
-use Rattle.redact_act.proofs.act.put_encoded.Lts as lts
-use Rattle.redact_act.proofs.Acts.{acted-over, acted-becomes}
+use mathlib.Core.Path.{sym, ap, _∙_}
+use native.Mathlib.Omega.{arith}
+use Rattle.run_model.specs.Redact.{becomes}
+use Rattle.er7_value.proofs.Encoding.{encode-same}
+use Rattle.redact_act.proofs.Acts.{acted-over, acted-becomes, acted-as}
 
 encoded-len-requires : tie.Need-encoded-len-requires
 encoded-len-requires c κs = search needs
@@ -18,16 +19,35 @@ add-if1 c = search needs
 returns : tie.Need-returns
 returns c = acted-over _ _ _ _ _ (c .before .encoded-len .ensures .0) (omega arith)
 
-encode-requires : tie.Need-encode-requires
-encode-requires c κs = search needs
+copy-at-requires : tie.Need-copy-at-requires
+copy-at-requires c κs = search needs
 
 same-length : tie.Need-same-length
 same-length c = search needs
 
 returns-2 : tie.Need-returns-2
-returns-2 c = acted-becomes _ _ _ _ _ (c .before .before .before .before .before .encoded-len .ensures .0) (omega arith) (c .before .before .encode .ensures)
+returns-2 c = acted-as (ap becomes (encode-same _ _ (sym (c .before .before .before .before .before .before .encoded-len .ensures .0) ∙ c .before .before .before .before .if2 .taken))) (acted-becomes _ _ _ _ _ (c .before .before .before .before .if2 .taken) (omega arith) (c .before .before .copy-at .ensures))
+
+encode-requires : tie.Need-encode-requires
+encode-requires c κs = search needs
+
+same-length-2 : tie.Need-same-length-2
+same-length-2 c = search needs
+
+returns-3 : tie.Need-returns-3
+returns-3 c = acted-becomes _ _ _ _ _ (c .before .before .before .before .before .before .encoded-len .ensures .0) (omega arith) (c .before .before .encode .ensures)
 
 pub put-encoded-spec : {M : Type 1} → statement M
 put-encoded-spec =
     tie.close
-    (tie.spec encoded-len-requires sub-if1 add-if1 returns encode-requires same-length returns-2)
+    (tie.spec
+    encoded-len-requires
+    sub-if1
+    add-if1
+    returns
+    copy-at-requires
+    same-length
+    returns-2
+    encode-requires
+    same-length-2
+    returns-3)
