@@ -76,7 +76,7 @@ module _ {cells : List ℕ} {store : Text} {n i : ℕ} {c : Counters} (g : Roomy
   here-is = rw (g .live)
 
   -- nothing changes
-  same-changed : (ρ : Row) (report : Text) → Changed stays ρ n i cells store report c cells store report c
+  pub same-changed : (ρ : Row) (report : Text) → Changed stays ρ n i cells store report c cells store report c
   same-changed ρ report = record {
     good = g .good;
     here = unfold after in here-is;

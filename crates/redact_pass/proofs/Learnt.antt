@@ -13,15 +13,32 @@ use Rattle.er7_redact.specs.declared.action.Action.{Action as HeldAction}
 use Rattle.er7_redact.specs.Action.{Action, isKeep, asAction, ActionHeld}
 use Rattle.refusal.specs.declared.Refusal.the-variants.{TooMuchLearnt}
 use Rattle.message_model.specs.Value.{isEmptyOrNull, value}
-use Rattle.run_model.specs.Redact.{learning, Row, Book, running, stopped, booked, bookAll}
+use Rattle.run_model.specs.Redact.{Event, learning, Row, Book, running, stopped, booked, bookAll}
 use Rattle.redact_act.specs.Known.{knownFrom, learnLeaf, Learns, bookOf}
 use Rattle.redact_act.specs.declared.known.Learnt.{Learnt}
 use Rattle.redact_act.specs.declared.known.Learnt.the-variants.{Kept, Full}
 use Rattle.redact_pass.specs.declared.leaf.Counters.{Counters}
 use Rattle.redact_pass.specs.declared.leaf.Done.the-variants.{Going, Stopped}
-use Rattle.redact_pass.specs.State.{knownNow, KnownHeld, Learning}
+use Rattle.redact_pass.specs.State.{knownNow, KnownHeld, LearntTo, Learning}
 
--- without a sweep nothing is learnt
+-- events that leave the book teach nothing
+pub learnt-none : (es : List Event) (sweep : Bool) {text bytes : Text} {known : List ℕ} {c : Counters} → ((b : Book) → bookAll sweep es b ≡ b)
+    → KnownHeld text bytes known c → LearntTo es sweep text bytes known c bytes known c
+learnt-none es sweep e h = record {
+  rows = refl;
+  report = refl;
+  size = refl;
+  used = refl;
+  held = h;
+  book = λ report b k. rw (e b) k;
+}
+
+-- under keep nothing is learnt
+pub learn-keep : (s : Separators) (a : Action) (t : Text) (sweep : Bool) → isKeep a ≡ true → (b : Book) → bookAll sweep (learning s a (t ∷ [])) b ≡ b
+unfolding learning bookAll
+learn-keep s a t sweep e b = rw e
+
+-- nor without a sweep
 pub learn-off : (s : Separators) (a : Action) (ts : List Text) (b : Book) → bookAll false (learning s a ts) b ≡ b
 unfolding learning bookAll booked
 learn-off s a [] b = refl
@@ -34,16 +51,7 @@ learn-off s a (t ∷ ts) (running ks ρs z) =
 
 pub learning-off : (s : Separators) (a : Action) (ts : List Text) (sweep : Bool) {text bytes : Text} {known : List ℕ} {c : Counters} → sweep ≡ false
     → KnownHeld text bytes known c → Learning (learning s a ts) sweep text bytes known c bytes known (Going c)
-learning-off s a ts sweep e h = record {
-  out = record {
-    rows = refl;
-    report = refl;
-    size = refl;
-    used = refl;
-    held = h;
-    book = λ report b k. rw (e, learn-off s a ts b) k;
-  };
-}
+learning-off s a ts sweep e h = record { out = learnt-none (learning s a ts) sweep (λ b. rw e (learn-off s a ts b)) h }
 
 -- a leaf's text, lent as a part of the store
 module _ (s : Separators) (store : Text) (start len : ℕ) {a : HeldAction} {bytes bytes′ : Text} {known known′ : List ℕ} (c : Counters) {r : Learnt}

@@ -14,10 +14,12 @@ use Rattle.refusal.specs.declared.Refusal.{Refusal}
 use Rattle.er7.specs.Path.{asPath}
 use Rattle.er7.specs.declared.message.Place.{Place}
 use Rattle.er7.specs.declared.separators.Separators.{Separators}
+use Rattle.er7_redact.specs.Action.{isKeep}
 use Rattle.er7_redact.specs.Policy.{Rule, asRule}
 use Rattle.er7_redact.specs.declared.policy.Rule.{Rule as HeldRule}
 use Rattle.message_model.specs.Message.{Leaf, leaf, Label, touchable}
-use Rattle.run_model.specs.Redact.{covers, reach, each-leaf, isNode, after, act, fateIn, fate, row, Event, changing, learning, took, size, ruleLeaf, ruleEvents, Book, stopped, bookAll}
+use Rattle.run_model.specs.Redact.{covers, reach, each-leaf, isNode, stays, after, act, fateIn, fate, row, Event, changing, learning, took, size, ruleLeaf, ruleEvents, Book, stopped, bookAll}
+use Rattle.run_model.proofs.InStep.{keep-is, keep-stays}
 use Rattle.er7_table.specs.Table.{cell, listOf, placeAt, textAt, leafAt, Good}
 use Rattle.redact_row.specs.Reach.{reachesSegment, reachesPlace}
 use Rattle.redact_row.proofs.Reaches.{covers-steps}
@@ -27,6 +29,8 @@ use Rattle.redact_pass.specs.declared.leaf.Counters.{Counters}
 use Rattle.redact_pass.specs.declared.leaf.Done.{Done}
 use Rattle.redact_pass.specs.declared.leaf.Done.the-variants.{Going, Stopped}
 use Rattle.redact_pass.proofs.Walks.{book-append, stopped-stays}
+use Rattle.redact_pass.proofs.Acting.{same-changed}
+use Rattle.redact_pass.proofs.Learnt.{learnt-none, learn-keep}
 use Rattle.redact_pass.proofs.Visits.{visited-same, live-text, live-length, text-length}
 
 or-true : (a : Bool) → a || true ≡ true
@@ -188,3 +192,14 @@ module _ (key : ℕ) (s : Separators) (r : Rule) (g : Label) where
             rw said
             (book-append sweep (learning s (r .action) (textOf cells store i ∷ [])) _ b
             ∙ rw (← at) (d .out sweep (knownNow text bytes′ known′ c₁) _ (l .book report b k)))
+
+    -- under keep a leaf is named, and no more
+    act-keep : isKeep (r .action) ≡ true → act key s (r .action) (textOf cells store i) ≡ stays
+    unfolding fateIn
+    act-keep k = rw q at (keep-stays key s r (placeAt cells i) (textOf cells store i) [] (keep-is (r .action) (rw k tt)))
+
+    pub rule-kept : i < length named → KnownHeld text bytes known c → isKeep (r .action) ≡ true
+        → RuleVisited (rulePass key s r) false sweep g n end i text named cells store report bytes known c (set named i true) cells store report bytes known c
+    rule-kept inside h k =
+        rule-changed inside (learnt-none _ sweep (learn-keep s (r .action) (textOf cells store i) sweep k) h) refl
+        (rw (act-keep k) (same-changed w (row g (placeAt cells i) (r .action)) report))

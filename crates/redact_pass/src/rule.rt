@@ -4,6 +4,7 @@ use super::leaf::Done;
 use super::leaf::act_on;
 use super::learn::learn_at;
 use er7::separators::Separators;
+use er7_redact::action::is_keep;
 use er7_redact::policy::Rule;
 use er7_render::render::place_at;
 use redact_row::reach::Label;
@@ -21,7 +22,7 @@ ghost use Rattle.redact_row.specs.Reach.{asLabel, reachesSegment};
 ghost use Rattle.redact_pass.specs.State.{KnownHeld, Ready};
 ghost use Rattle.redact_pass.specs.Visit.{rulePass, RuleVisitedOr};
 
-// A rule on leaf i of n of the segment g, which its path reaches into: a leaf that it reaches is named, learnt and acted on.
+// A rule on leaf i of n of the segment g, which its path reaches into: a leaf that it reaches is named and, unless it is kept, learnt and acted on.
 pub fn apply_leaf(
     key: u64,
     s: Separators,
@@ -55,6 +56,9 @@ pub fn apply_leaf(
     }
     let a = rule.action;
     named[i] = true;
+    if is_keep(a) {
+        return Done::Going(c);
+    }
     match learn_at(a, s, sweep, i, cells, store, value, bytes, known, c) {
         Done::Going(next) => act_on(
             key,

@@ -178,7 +178,7 @@ rows-moved ρ vanishes stays e h k = absurd k
 rows-moved ρ vanishes (becomes v) e h k = absurd (true≢false e)
 rows-moved ρ vanishes vanishes e h k = refl
 
-keep-is : (a : Action) → T (isKeep a) → a ≡ keep
+pub keep-is : (a : Action) → T (isKeep a) → a ≡ keep
 unfolding isKeep kind
 keep-is keep h = refl
 keep-is clear h = absurd h
@@ -213,7 +213,7 @@ module _ (key : ℕ) (s : Separators) where
       (rows-changing (row g p (r .action)) _ (fate key s r g p t xs))
 
   -- a rule that does not cover a leaf, or keeps it, leaves it
-  keep-stays : (r : Rule) (p : Place) (t : Text) (xs : List Leaf) → r .action ≡ keep → fateIn key s (reach r) (r .action) p t xs ≡ stays
+  pub keep-stays : (r : Rule) (p : Place) (t : Text) (xs : List Leaf) → r .action ≡ keep → fateIn key s (reach r) (r .action) p t xs ≡ stays
   unfolding reach isNullAction kind fateIn act replaced apply
   keep-stays r p t xs e = rw e (cond-stays (isEmptyOrNull t))
 
