@@ -1,11 +1,12 @@
 // The cases: what each group computes from a line's fields.
 use super::groups::group_of;
 use super::lines::field;
-use super::lines::unescape;
+use super::lines::input;
 use super::messages::message_answer;
 use super::parts::number;
 use super::parts::put_number;
 use super::policies::policy_answer;
+use super::sample::is_replayed;
 use super::values::value_answer;
 use er7::path;
 use er7::path::ParsedPath;
@@ -143,20 +144,7 @@ fn answer(group: usize, a: &[u8], b: &[u8], c: &[u8], d: &[u8], got: &mut [u8]) 
     if group < 16 {
         return value_answer(group, a, b, got);
     }
-    if group < 18 {
-        return message_answer(group, a, b, c, d, got);
-    }
-    copy_at(got, 0, b"unknown group")
-}
-
-// Puts field k of the line, with its escapes read, at the front of out, and returns its length.
-fn input(line: &[u8], k: usize, out: &mut [u8]) -> usize
-    ensures { λ r. ⌜ r ≤ length (now (out .exit)) ⌝ }
-{
-    let span = field(line, k);
-    let start = span.start;
-    let end = span.end;
-    unescape(&line[start..end], out)
+    message_answer(group, a, b, c, d, got)
 }
 
 // What comes out of the case that a line states, whose fields 2 and 3 are a and b.
@@ -184,7 +172,7 @@ fn outcome(group: usize, line: &[u8], got: &mut [u8]) -> usize
 }
 
 // Whether the case that a line states comes out as field 1 says.
-fn is_right(group: usize, line: &[u8]) -> bool {
+fn is_answered(group: usize, line: &[u8]) -> bool {
     let mut want = [0u8; 49152];
     let mut got = [0u8; 49152];
     let n_want = input(line, 1, &mut want);
@@ -192,8 +180,19 @@ fn is_right(group: usize, line: &[u8]) -> bool {
     same_bytes(&got[0..n], &want[0..n_want])
 }
 
+// Whether the case that a line states comes out right.
+fn is_right(group: usize, line: &[u8]) -> bool {
+    if group < 18 {
+        return is_answered(group, line);
+    }
+    if group < 23 {
+        return is_replayed(group, line);
+    }
+    false
+}
+
 // Runs the case that a line states, and counts it in its group's pair: how many were right, and how many there were.
-fn run_line(line: &[u8], tally: &mut [u64; 40]) {
+fn run_line(line: &[u8], tally: &mut [u64; 48]) {
     let name = field(line, 0);
     let end = name.end;
     let group = group_of(&line[0..end]);
@@ -208,7 +207,7 @@ fn add_one(n: u64) -> u64 {
 }
 
 // Runs every line that is not empty and does not begin with `#`.
-pub fn run(text: &[u8], tally: &mut [u64; 40]) {
+pub fn run(text: &[u8], tally: &mut [u64; 48]) {
     let mut i = 0;
     while i < text.len() {
         let end = run_end(text, i, Class::AllBut(b'\n'));

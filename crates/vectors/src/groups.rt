@@ -2,9 +2,31 @@
 use text::bytes::same_bytes;
 ghost use Prim.Native.Nat.{_≤_};
 
-// The number of a group of messages; 19 for an unknown one.
+// The number of a group of entries; 23 for an unknown one.
+fn entry_group(name: &[u8]) -> usize
+    ensures { λ r. ⌜ r ≤ 23 ⌝ }
+{
+    if same_bytes(name, b"entry-redact") {
+        return 18;
+    }
+    if same_bytes(name, b"entry-print") {
+        return 19;
+    }
+    if same_bytes(name, b"entry-append") {
+        return 20;
+    }
+    if same_bytes(name, b"entry-builtin") {
+        return 21;
+    }
+    if same_bytes(name, b"entry-payload") {
+        return 22;
+    }
+    23
+}
+
+// The number of a group of messages or entries.
 fn message_group(name: &[u8]) -> usize
-    ensures { λ r. ⌜ r ≤ 19 ⌝ }
+    ensures { λ r. ⌜ r ≤ 23 ⌝ }
 {
     if same_bytes(name, b"word") {
         return 15;
@@ -15,12 +37,12 @@ fn message_group(name: &[u8]) -> usize
     if same_bytes(name, b"repeated") {
         return 17;
     }
-    19
+    entry_group(name)
 }
 
-// The number of a group of values or messages.
+// The number of a group of values, messages or entries.
 fn value_group(name: &[u8]) -> usize
-    ensures { λ r. ⌜ r ≤ 19 ⌝ }
+    ensures { λ r. ⌜ r ≤ 23 ⌝ }
 {
     if same_bytes(name, b"decode") {
         return 12;
@@ -34,9 +56,9 @@ fn value_group(name: &[u8]) -> usize
     message_group(name)
 }
 
-// The number of a group of policies, values or messages.
+// The number of a group of policies, values, messages or entries.
 fn policy_group(name: &[u8]) -> usize
-    ensures { λ r. ⌜ r ≤ 19 ⌝ }
+    ensures { λ r. ⌜ r ≤ 23 ⌝ }
 {
     if same_bytes(name, b"policy") {
         return 7;
@@ -58,7 +80,7 @@ fn policy_group(name: &[u8]) -> usize
 
 // The number of a group that is none of numbers.
 fn action_group(name: &[u8]) -> usize
-    ensures { λ r. ⌜ r ≤ 19 ⌝ }
+    ensures { λ r. ⌜ r ≤ 23 ⌝ }
 {
     if same_bytes(name, b"path") {
         return 4;
@@ -74,7 +96,7 @@ fn action_group(name: &[u8]) -> usize
 
 // A group's number.
 pub fn group_of(name: &[u8]) -> usize
-    ensures { λ r. ⌜ r ≤ 19 ⌝ }
+    ensures { λ r. ⌜ r ≤ 23 ⌝ }
 {
     if same_bytes(name, b"fnv") {
         return 0;

@@ -1,6 +1,19 @@
 // The report: a line for each group, and one for all.
 
-// Writes the name of a group of values or messages.
+// Writes the name of a group of entries.
+fn print_entry_name(fd: i32, group: usize) {
+    match group {
+        18 => io::write_all(fd, b"entry-redact"),
+        19 => io::write_all(fd, b"entry-print"),
+        20 => io::write_all(fd, b"entry-append"),
+        21 => io::write_all(fd, b"entry-builtin"),
+        22 => io::write_all(fd, b"entry-payload"),
+        _ => io::write_all(fd, b"unknown"),
+    }
+    ;
+}
+
+// Writes the name of a group of values, messages or entries.
 fn print_value_name(fd: i32, group: usize) {
     match group {
         12 => io::write_all(fd, b"decode"),
@@ -9,12 +22,12 @@ fn print_value_name(fd: i32, group: usize) {
         15 => io::write_all(fd, b"word"),
         16 => io::write_all(fd, b"leaves"),
         17 => io::write_all(fd, b"repeated"),
-        _ => io::write_all(fd, b"unknown"),
+        _ => return print_entry_name(fd, group),
     }
     ;
 }
 
-// Writes the name of a group of policies, values or messages.
+// Writes the name of a group that is none of numbers, paths or actions.
 fn print_policy_name(fd: i32, group: usize) {
     match group {
         7 => io::write_all(fd, b"policy"),
@@ -66,11 +79,11 @@ fn print_all(fd: i32, right: u64, all: u64) {
 }
 
 // Writes a line for each group that has cases, and one for all.
-pub fn print(fd: i32, tally: &[u64; 40]) {
+pub fn print(fd: i32, tally: &[u64; 48]) {
     let mut right = 0;
     let mut all = 0;
     let mut group = 0;
-    while group < 20 {
+    while group < 24 {
         let r = tally[group * 2];
         let n = tally[group * 2 + 1];
         if 0 < n {

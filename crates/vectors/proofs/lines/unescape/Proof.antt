@@ -20,26 +20,14 @@ same-length c = search needs
 returns : tie.Need-returns Inv-loop μ-loop
 returns c = search needs
 
-written-requires : tie.Need-written-requires Inv-loop μ-loop
-written-requires c κs = search needs
-
-shared-slice-read-out : tie.Need-shared-slice-read-out Inv-loop μ-loop
-shared-slice-read-out c = search needs
-
-shared-slice-read-unescaped : tie.Need-shared-slice-read-unescaped Inv-loop μ-loop
-shared-slice-read-unescaped c = search needs
-
-unescaped-requires : tie.Need-unescaped-requires Inv-loop μ-loop
-unescaped-requires c κs = search needs
+byte-of-requires : tie.Need-byte-of-requires Inv-loop μ-loop
+byte-of-requires c κs = search needs
 
 slice-write-out : tie.Need-slice-write-out Inv-loop μ-loop
 slice-write-out c = search needs
 
 add-n : tie.Need-add-n Inv-loop μ-loop
 add-n c = search needs
-
-add-i : tie.Need-add-i Inv-loop μ-loop
-add-i c = search needs
 
 loop-less : tie.Need-loop-less Inv-loop μ-loop
 loop-less c = search needs
@@ -62,13 +50,9 @@ unescape-spec =
     loop-holds
     same-length
     returns
-    written-requires
-    shared-slice-read-out
-    shared-slice-read-unescaped
-    unescaped-requires
+    byte-of-requires
     slice-write-out
     add-n
-    add-i
     loop-less
     loop-again
     same-length-2

@@ -4,10 +4,10 @@ use borrow.Author.Needs.{needs}
 use Prim.Native.Nat.{_-_, _≤_}
 
 abbrev Inv-loop : tie.InvT-loop
-Inv-loop fd tally right₀ all₀ group₀ right all group = group ≤ 20
+Inv-loop fd tally right₀ all₀ group₀ right all group = group ≤ 24
 
 abbrev μ-loop : tie.MeasureT-loop
-μ-loop fd tally right₀ all₀ group₀ right all group = 20 - group
+μ-loop fd tally right₀ all₀ group₀ right all group = 24 - group
 
 loop-holds : tie.Need-loop-holds Inv-loop μ-loop
 loop-holds c = search needs
