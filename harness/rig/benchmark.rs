@@ -182,44 +182,58 @@ fn swept() -> (String, String) {
     (text.replace("member 4412", "member400"), "Z01 mask\nknown-values on\n".into())
 }
 
+/// A log with about so many kilobytes: results, and behind 200 of them, which have nearly 4,096 leaves, notes.
+fn log_of(kilobytes: usize) -> String {
+    let most = kilobytes * 1024;
+    let mut n = 1;
+    while log(n + 1).len() <= most && n < 200 {
+        n += 1;
+    }
+    let mut message = log(n);
+    while most - message.len() > 8 {
+        let room = (most - message.len() - 5).min(400);
+        message += &format!("NTE|{}\r", "slow set, ".repeat(40)[..room].trim_end());
+    }
+    message
+}
+
+fn print_line(name: &str, message: &str, t: &Times, bar: &str) {
+    println!(
+        "{name:34}{:>7}{:>7}{:>11.1}{:>11.1}{:>8.2}{bar:>6}{:>10.2}{:>12.1}",
+        message.len(), t.rows, t.rust, t.port, t.port / t.rust, t.floor, t.port / t.floor
+    );
+}
+
 fn main() {
     let mut bench = Bench { output: vec![1; 49_152], report: vec![1; 65_536], scratch: vec![1; 49_152] };
     let builtin = |p: Policy| p.to_string();
     let (crowded, crowding) = crowded();
     let (swept, sweeping) = swept();
     let cases = [
-        ("a  4 OBX, six-line gym policy", log(4), GYM.to_string()),
-        ("b  100 OBX, built-in 2", log(100), builtin(Policy::patient_identifiers())),
-        ("c  100 OBX, built-in 1", log(100), builtin(Policy::reject_all())),
-        ("d  100 OBX, 40 rules on OBX", log(100), forty()),
-        ("e  4,096 leaves, 128 rules", crowded, crowding),
-        ("f  sweep with 512 learnt values", swept, sweeping),
+        ("a  4 OBX, six-line gym policy", log(4), GYM.to_string(), 0.5),
+        ("b  100 OBX, built-in 2", log(100), builtin(Policy::patient_identifiers()), 0.25),
+        ("c  100 OBX, built-in 1", log(100), builtin(Policy::reject_all()), 0.25),
+        ("d  100 OBX, 40 rules on OBX", log(100), forty(), 0.25),
+        ("e  4,096 leaves, 128 rules", crowded, crowding, 1.0),
+        ("f  sweep with 512 learnt values", swept, sweeping, 1.0),
     ];
-    println!("{:34}{:>7}{:>7}{:>12}{:>12}{:>8}{:>11}{:>11}", "microseconds per call", "bytes", "rows", "Rust", "port", "ratio", "floor", "port/floor");
-    let mut line = |name: &str, message: &str, policy: &str| {
+    println!("{:34}{:>7}{:>7}{:>11}{:>11}{:>8}{:>6}{:>10}{:>12}", "microseconds per call", "bytes", "rows", "Rust", "port", "ratio", "bar", "floor", "port/floor");
+    let mut met = 0;
+    for (name, message, policy, bar) in &cases {
         let t = measure(&mut bench, message.as_bytes(), policy.as_bytes());
-        println!(
-            "{name:34}{:>7}{:>7}{:>12.1}{:>12.1}{:>8.2}{:>11.2}{:>11.1}",
-            message.len(), t.rows, t.rust, t.port, t.port / t.rust, t.floor, t.port / t.floor
-        );
-    };
-    for (name, message, policy) in &cases {
-        line(name, message, policy);
+        print_line(name, message, &t, &bar.to_string());
+        met += u32::from(t.port <= bar * t.rust);
     }
-    println!();
+    println!("bars: {met} of {} met", cases.len());
     for (name, policy) in [("gym policy", GYM.to_string()), ("built-in 2", builtin(Policy::patient_identifiers())), ("reject clear", "reject clear\n".to_string())] {
+        println!();
+        let mut ends = Vec::new();
         for kilobytes in [1, 2, 4, 8, 16, 32] {
-            let mut n = 1;
-            while log(n + 1).len() <= kilobytes * 1024 && n < 200 {
-                n += 1;
-            }
-            // More than 200 results would be over 4,096 leaves: notes fill what they leave.
-            let mut message = log(n);
-            while kilobytes * 1024 - message.len() > 8 {
-                let room = (kilobytes * 1024 - message.len() - 5).min(400);
-                message += &format!("NTE|{}\r", "slow set, ".repeat(40)[..room].trim_end());
-            }
-            line(&format!("{kilobytes} KB, {name}"), &message, &policy);
+            let message = log_of(kilobytes);
+            let t = measure(&mut bench, message.as_bytes(), policy.as_bytes());
+            print_line(&format!("{kilobytes} KB, {name}"), &message, &t, "");
+            ends.push(t.port);
         }
+        println!("from 1 KB to 32 KB the time grows {:.1}-fold", ends[5] / ends[0]);
     }
 }

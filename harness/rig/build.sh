@@ -4,10 +4,7 @@ set -eu
 cd "$(dirname "$0")/../.."
 out=target/harness
 mkdir -p "$out"
-rt staticlib gateway >"$out/staticlib.log" 2>&1 || {
-    cat "$out/staticlib.log"
-    exit 1
-}
+bash harness/archive.sh
 bash harness/oracle/build.sh
 gcc -std=c11 -O3 -c harness/rig/floor.c -o "$out/floor.o"
 rustc --edition 2024 -C opt-level=3 "harness/rig/$1.rs" --extern "er7=$out/oracle/liber7.rlib" \
