@@ -12,11 +12,12 @@ use lib.Dec.{eqb, leb, ltb}
 use lib.ListN.{length, take, drop}
 use lib.Seq.{append-snoc}
 use Rattle.text.specs.Text.{Text}
-use Rattle.text.proofs.Laws.{split}
+use Rattle.text.proofs.Laws.{split, zero-or}
 use Rattle.refusal.specs.declared.Refusal.{Refusal}
 use Rattle.refusal.specs.declared.Refusal.the-variants.{BadSegment, TooMany}
 use Rattle.er7.specs.declared.separators.Separators.{Separators}
 use Rattle.message_model.specs.Message.{Label, Segment, segment, Message, leavesOf, isNamed, count, segments, segmentLines, segmentsFault}
+use Rattle.er7_table.specs.Filling.{LeafRoom}
 use Rattle.er7_table.specs.Table.{cell, listOf, Good, Placed, firstLeaf, nameAt, labelAt, segmentAt, segmentsFrom}
 use Rattle.er7_table.proofs.Laws.{list-snoc, list-ext, list-length, place-kept, leaves-kept, name-kept, label-kept, first-kept}
 use Rattle.er7_message.specs.declared.message.ParsedMessage.the-variants.{Read, Refused}
@@ -24,9 +25,20 @@ use Rattle.er7_message.specs.Parsed.{faultOf, ParsedAs}
 use Rattle.er7_message.specs.Inner.{line, LineEnd, faultBy, messageBy, names, Numbered, SegmentFits, SegmentRead, Reading}
 use Rattle.er7_message.proofs.Lines.{line-last, line-next, line-some}
 
+-- ---- room in the table of leaves
+
+room-rows : (r : ℕ) {cells : List ℕ} {m : ℕ} → LeafRoom cells m → r ≤ 4096 → r ≤ m → r * 8 ≤ length cells
+room-rows r h a b = zero-or r (λ e. rw e (omega arith)) (λ e. omega (arith, h .room (r - 1) (omega arith) (omega arith)))
+
+pub room-kept : {cells cells′ : List ℕ} {m : ℕ} → LeafRoom cells m → length cells′ ≡ length cells → LeafRoom cells′ m
+room-kept h e = record { room = λ i a b. omega (arith, h .room i a b, e) }
+
+pub room-front : {cells : List ℕ} {m k : ℕ} → LeafRoom cells m → k ≤ m → LeafRoom cells k
+room-front h e = record { room = λ i a b. h .room i a (omega arith) }
+
 -- ---- nothing is read
 
-pub reading-start : (s : Separators) (t : Text) (segs cells : List ℕ) → 257 * 8 ≤ length segs → 4096 * 8 ≤ length cells → Reading s t segs cells 0 0 (segmentLines [] t)
+pub reading-start : (s : Separators) (t : Text) (segs cells : List ℕ) → 257 * 8 ≤ length segs → LeafRoom cells (length t) → Reading s t segs cells 0 0 (segmentLines [] t)
 unfolding faultBy segmentsFrom names listOf
 reading-start s t segs cells h k = record {
   many = omega arith;
@@ -123,9 +135,9 @@ module _ {s : Separators} {t l : Text} {segs cells segs′ cells′ : List ℕ} 
       let len : length (names segs 0 k) ≡ k = unfold names in list-length (nameAt segs) 0 k in
       rw (len, f .label, f .begins, f .ends, f .filled .are, names-more)
 
-  slots-more : 4096 * 8 ≤ length cells′ → r ≤ 4096 → Good cells′ t r (length t)
-  slots-more h m = record {
-    rows = omega arith;
+  slots-more : LeafRoom cells′ (length t) → r ≤ 4096 → r ≤ length t → Good cells′ t r (length t)
+  slots-more h m a = record {
+    rows = room-rows r h m a;
     room = omega arith;
     ends = λ i x. split i n
         (λ y. rw (f .before i 1 (omega arith) y, f .before i 2 (omega arith) y) (go .slots .ends i y))
@@ -139,15 +151,15 @@ module _ {s : Separators} {t l : Text} {segs cells segs′ cells′ : List ℕ} 
         (λ y. f .filled .within i y x);
   }
 
-  pub reading-more : r ≤ 4096 → eqb k 0 || isNamed s l ≡ true → 257 * 8 ≤ length segs′ → 4096 * 8 ≤ length cells′ → Reading s t segs′ cells′ (k + 1) r ls
-  reading-more m e h h′ = record {
+  pub reading-more : r ≤ 4096 → r ≤ length t → eqb k 0 || isNamed s l ≡ true → 257 * 8 ≤ length segs′ → LeafRoom cells′ (length t) → Reading s t segs′ cells′ (k + 1) r ls
+  reading-more m a e h h′ = record {
     many = omega (arith, f .few);
     few = m;
     none-yet = λ q. absurd (omega arith);
     fault = go .fault ∙ fault-on s k n l ls e (f .few) (f .filled .count) m;
     read = go .read ∙ rw (segment-here, segments-more) (sym (append-snoc (segmentsFrom (λ i. false) segs cells t 0 k) (segmentAt (λ i. false) segs′ cells′ t k) (segments s (names segs′ 0 (k + 1)) ls)));
     numbered = numbered-more;
-    slots = slots-more h′ m;
+    slots = slots-more h′ m a;
     placed = placed-more;
     none-before = λ _. dite (ℕ-discrete k 0) (λ q. rw q at (f .begins) ∙ go .none-yet q) (λ ne. firsts 0 (omega arith) ∙ go .none-before (omega arith));
     all = λ _. f .ends;
@@ -204,30 +216,30 @@ module _ {s : Separators} {t : Text} {segs cells : List ℕ} {k n i e : ℕ} (go
       let ls = line-some g in
       refused BadSegment (go .fault ∙ ap (segmentsFault s k n) (ls .1) ∙ fault-bad s k n (line t i e) (ls .0) q) m segs′ cells′
 
-  module _ (q : eqb k 0 || isNamed s (line t i e) ≡ true) {segs′ cells′ : List ℕ} {r : ℕ} (w : SegmentRead s t (line t i e) k n segs cells segs′ cells′ r) where
+  module _ (q : eqb k 0 || isNamed s (line t i e) ≡ true) {segs′ cells′ : List ℕ} {r : ℕ} (w : SegmentRead s t (line t i e) e k n segs cells segs′ cells′ r) where
     pub line-crowded : 4096 < r → (m : Message) (segs″ cells″ : List ℕ) → ParsedAs t (faultBy s t) m segs″ cells″ (Refused TooMany)
     line-crowded h m segs″ cells″ =
         let ls = line-some g in
         refused TooMany (go .fault ∙ ap (segmentsFault s k n) (ls .1) ∙ fault-crowded s k n (line t i e) (ls .0) q (w .crowded h)) m segs″ cells″
 
-    module _ (h : r ≤ 4096) (long : 257 * 8 ≤ length segs′) (long′ : 4096 * 8 ≤ length cells′) where
+    module _ (h : r ≤ 4096) (long : 257 * 8 ≤ length segs′) (long′ : LeafRoom cells′ (length t)) where
       pub line-on : e < length t → Reading s t segs′ cells′ (k + 1) r (segmentLines [] (drop (e + 1) t))
-      line-on x = reading-more (rw (line-next g x) at go) (w .fitted h) h q long long′
+      line-on x = reading-more (rw (line-next g x) at go) (w .fitted h) h (omega (arith, w .few h, g .high)) q long long′
 
       pub line-done : e ≡ length t → (last : Bool) → ParsedAs t (faultBy s t) (messageBy s last t) segs′ cells′ (Read (record { separators = s; segments = k + 1; leaves = r; «last_cr» = last }))
-      line-done x last = reading-all (reading-more (rw (line-last g x) at go) (w .fitted h) h q long long′) (omega arith) last
+      line-done x last = reading-all (reading-more (rw (line-last g x) at go) (w .fitted h) h (omega (arith, w .few h, g .high)) q long long′) (omega arith) last
 
 -- a line behind the header is judged by its name
 pub judged : (k : ℕ) → 1 ≤ k → (b : Bool) {c d : Bool} → c ≡ b → c ≡ d → eqb k 0 || b ≡ d
 judged k h b e f = rw (ne-eqb k 0 (λ q. absurd (omega arith))) (sym e ∙ f)
 
 -- ---- the header, which is the first line
-module _ {s : Separators} {t : Text} {segs cells segs′ cells′ : List ℕ} {e r : ℕ} (g : LineEnd t 0 e) (w : SegmentRead s t (line t 0 e) 0 0 segs cells segs′ cells′ r)
-    (room : 257 * 8 ≤ length segs) (room′ : 4096 * 8 ≤ length cells) where
+module _ {s : Separators} {t : Text} {segs cells segs′ cells′ : List ℕ} {e r : ℕ} (g : LineEnd t 0 e) (w : SegmentRead s t (line t 0 e) e 0 0 segs cells segs′ cells′ r)
+    (room : 257 * 8 ≤ length segs) (room′ : LeafRoom cells (length t)) where
   pub header-crowded : 4096 < r → (m : Message) (segs″ cells″ : List ℕ) → ParsedAs t (faultBy s t) m segs″ cells″ (Refused TooMany)
   header-crowded h = line-crowded (reading-start s t segs cells room room′) g refl w h
 
-  module _ (h : r ≤ 4096) (long : 257 * 8 ≤ length segs′) (long′ : 4096 * 8 ≤ length cells′) where
+  module _ (h : r ≤ 4096) (long : 257 * 8 ≤ length segs′) (long′ : LeafRoom cells′ (length t)) where
     pub header-on : e < length t → Reading s t segs′ cells′ 1 r (segmentLines [] (drop (e + 1) t))
     header-on x = line-on (reading-start s t segs cells room room′) g refl w h long long′ x
 

@@ -54,21 +54,22 @@ pub within-behind : (s : Separators) (x n i : ℕ) {p : Place} → p ≡ next s 
 within-behind s x n i e h k = rw e (within-next s x (inField n) i (within-field n i h k))
 
 module _ (s : Separators) (t : Text) (from end field n : ℕ) (cells : List ℕ) where
-  pub behind-none : from ≡ end → n ≤ 4096 → LeavesRead (leavesBehind s (atField field) (drop from (take end t))) t n cells cells n
+  pub behind-none : from ≡ end → n ≤ 4096 → n < from → LeavesRead (leavesBehind s (atField field) (drop from (take end t))) t end n cells cells n
   unfolding leavesBehind leavesFrom listOf
-  behind-none e h =
+  behind-none e h a =
       let d : drop from (take end t) ≡ [] = drop-of-length-le (take end t) {i = from} (simp length-take (omega arith)) in
       let z : n - n ≡ 0 = omega arith in
       rw d (record {
         fitted = λ _. record { count = omega arith; are = rw z; ends = λ i a b. absurd (omega arith); within = λ i a b. absurd (omega arith) };
+        few = λ _. omega arith;
         crowded = λ k. absurd (omega arith);
         most = omega arith;
         before = λ _ _ _ _. refl;
       })
 
   pub behind-some : from < end → end ≤ length t → {p : Place} → p ≡ next s (getD t from 0) (inField field) → {cells′ : List ℕ} {r : ℕ}
-      → LeavesRead (leaves s p [] (drop (from + 1) (take (end - 0) t))) (take (end - 0) t) n cells cells′ r
-      → LeavesRead (leavesBehind s (atField field) (drop from (take end t))) t n cells cells′ r
+      → LeavesRead (leaves s p [] (drop (from + 1) (take (end - 0) t))) (take (end - 0) t) (length (take (end - 0) t)) n cells cells′ r
+      → LeavesRead (leavesBehind s (atField field) (drop from (take end t))) t end n cells cells′ r
   unfolding leavesBehind atField
   behind-some h l {p} e {cells′} {r} g =
       let z : end - 0 ≡ end = omega arith in
@@ -111,24 +112,26 @@ module _ (s : Separators) (t : Text) (i e k n : ℕ) (segs cells : List ℕ) whe
   unfolding leavesOf
   leaves-are one = rw (ne-eqb k 0 (λ q. absurd (omega arith)), line-from t i e, drop-drop 3 i (take e t))
 
-  pub segment-257 : (segs′ cells′ : List ℕ) → k ≡ 256 → SegmentRead s t (line t i e) k n segs cells segs′ cells′ 4097
+  pub segment-257 : (segs′ cells′ : List ℕ) → k ≡ 256 → SegmentRead s t (line t i e) e k n segs cells segs′ cells′ 4097
   segment-257 segs′ cells′ q = record {
     fitted = λ h. absurd (omega (arith, h));
+    few = λ h. absurd (omega (arith, h));
     crowded = λ _. rw (le-leb 256 k (omega arith));
     most = omega arith;
   }
 
-  module _ (one : 1 ≤ k) {cells′ : List ℕ} {m : ℕ} (g : LeavesRead (leavesBehind s (atField 0) (drop (i + 3) (take e t))) t n cells cells′ m) where
-    pub segment-crowded : (segs′ : List ℕ) → 4096 < m → SegmentRead s t (line t i e) k n segs cells segs′ cells′ 4097
+  module _ (one : 1 ≤ k) {cells′ : List ℕ} {m : ℕ} (g : LeavesRead (leavesBehind s (atField 0) (drop (i + 3) (take e t))) t e n cells cells′ m) where
+    pub segment-crowded : (segs′ : List ℕ) → 4096 < m → SegmentRead s t (line t i e) e k n segs cells segs′ cells′ 4097
     segment-crowded segs′ h = record {
       fitted = λ h. absurd (omega (arith, h));
+      few = λ h. absurd (omega (arith, h));
       crowded = λ _. rw (leaves-are one, lt-ltb 4096 (n + length (leavesBehind s (atField 0) (drop (i + 3) (take e t)))) (g .crowded h)) (or-true (leb 256 k));
       most = omega arith;
     }
 
     pub segment-fits : e ≤ length t → i + 3 ≤ e → k < 256 → m ≤ 4096 → {segs′ : List ℕ} {o : ℕ}
         → o ≡ count (getD t i 0 ∷ getD t (i + 1) 0 ∷ getD t (i + 2) 0 ∷ []) (names segs 0 k) + 1
-        → SegmentPut segs k n (getD t i 0) (getD t (i + 1) 0) (getD t (i + 2) 0) o 0 m segs′ → SegmentRead s t (line t i e) k n segs cells segs′ cells′ m
+        → SegmentPut segs k n (getD t i 0) (getD t (i + 1) 0) (getD t (i + 2) 0) o 0 m segs′ → SegmentRead s t (line t i e) e k n segs cells segs′ cells′ m
     segment-fits l w few h {segs′} {o} c p = record {
       fitted = λ _. record {
         few = few;
@@ -139,6 +142,7 @@ module _ (s : Separators) (t : Text) (i e k n : ℕ) (segs cells : List ℕ) whe
         rows = p .other;
         before = g .before;
       };
+      few = g .few;
       crowded = λ x. absurd (omega arith);
       most = omega arith;
     }
@@ -176,10 +180,11 @@ module _ (s : Separators) (t : Text) (e : ℕ) (long : 8 ≤ e) (inside : e ≤ 
   leaves-are-three = rw line-0
 
   module _ {cells cells₁ cells₂ cells′ : List ℕ} {r : ℕ} (p : LeafPut cells 0 (inField 1) 3 1 cells₁) (q : LeafPut cells₁ 1 (inField 2) 4 4 cells₂)
-      (g : LeavesRead (leavesBehind s (atField 2) (drop 8 (take e t))) t 2 cells₂ cells′ r) where
-    pub header-crowded : (segs segs′ : List ℕ) → 4096 < r → SegmentRead s t (line t 0 e) 0 0 segs cells segs′ cells′ 4097
+      (g : LeavesRead (leavesBehind s (atField 2) (drop 8 (take e t))) t e 2 cells₂ cells′ r) where
+    pub header-crowded : (segs segs′ : List ℕ) → 4096 < r → SegmentRead s t (line t 0 e) e 0 0 segs cells segs′ cells′ 4097
     header-crowded segs segs′ h = record {
       fitted = λ h. absurd (omega (arith, h));
+      few = λ h. absurd (omega (arith, h));
       crowded = λ _. rw leaves-are-three (lt-ltb 4096 (0 + suc (suc (length (leavesBehind s (atField 2) (drop 8 (take e t)))))) (omega (arith, g .crowded h)));
       most = omega arith;
     }
@@ -230,7 +235,7 @@ module _ (s : Separators) (t : Text) (e : ℕ) (long : 8 ≤ e) (inside : e ≤ 
     unfolding bytes
     header-name = header-line (line t 0 e) header .name
 
-    pub header-fits : r ≤ 4096 → {segs segs′ : List ℕ} → SegmentPut segs 0 0 77 83 72 1 1 r segs′ → SegmentRead s t (line t 0 e) 0 0 segs cells segs′ cells′ r
+    pub header-fits : r ≤ 4096 → {segs segs′ : List ℕ} → SegmentPut segs 0 0 77 83 72 1 1 r segs′ → SegmentRead s t (line t 0 e) e 0 0 segs cells segs′ cells′ r
     unfolding names listOf count
     header-fits h {segs} {segs′} w = record {
       fitted = λ _. record {
@@ -242,6 +247,7 @@ module _ (s : Separators) (t : Text) (e : ℕ) (long : 8 ≤ e) (inside : e ≤ 
         rows = w .other;
         before = λ i j a b. absurd (omega arith);
       };
+      few = g .few;
       crowded = λ x. absurd (omega arith);
       most = omega arith;
     }

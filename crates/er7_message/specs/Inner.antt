@@ -12,7 +12,7 @@ use Rattle.refusal.specs.declared.Refusal.the-variants.{BadHeader}
 use Rattle.er7.specs.declared.separators.Separators.{Separators}
 use Rattle.message_model.specs.Message.{Message, separatorsOf, isHeader, segmentLines, firstOf, leavesOf, count, segments, segmentsFault}
 use Rattle.er7_table.specs.Table.{cell, listOf, Good, Placed, firstLeaf, nameAt, labelAt, segmentsFrom}
-use Rattle.er7_table.specs.Filling.{Filled}
+use Rattle.er7_table.specs.Filling.{Filled, LeafRoom}
 
 -- ---- lines
 
@@ -71,9 +71,10 @@ pub record SegmentFits (s : Separators) (t l : Text) (k n : ℕ) (segs cells seg
   pub rows : (i j : ℕ) → j < 8 → i < k → cell segs′ i j ≡ cell segs i j
   pub before : (i j : ℕ) → j < 8 → i < n → cell cells′ i j ≡ cell cells i j
 
--- it did, or it is one segment or some leaves too many
-pub record SegmentRead (s : Separators) (t l : Text) (k n : ℕ) (segs cells segs′ cells′ : List ℕ) (r : ℕ) : Type 0 where
+-- it did, and there are no more leaves than bytes before index e; or it is one segment or some leaves too many
+pub record SegmentRead (s : Separators) (t l : Text) (e k n : ℕ) (segs cells segs′ cells′ : List ℕ) (r : ℕ) : Type 0 where
   pub fitted : r ≤ 4096 → SegmentFits s t l k n segs cells segs′ cells′ r
+  pub few : r ≤ 4096 → r ≤ e
   pub crowded : 4096 < r → leb 256 k || ltb 4096 (n + length (leavesOf s (eqb k 0) l)) ≡ true
   pub most : r ≤ 4097
 
@@ -92,4 +93,4 @@ pub record Reading (s : Separators) (t : Text) (segs cells : List ℕ) (k n : �
   pub up : (j : ℕ) → j < k → firstLeaf segs j ≤ firstLeaf segs (j + 1)
   pub inside : (j : ℕ) → j < k → firstLeaf segs (j + 1) ≤ n
   pub segment-room : 257 * 8 ≤ length segs
-  pub leaf-room : 4096 * 8 ≤ length cells
+  pub leaf-room : LeafRoom cells (length t)

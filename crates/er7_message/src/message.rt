@@ -12,12 +12,12 @@ use text::bytes::same_bytes;
 ghost use mathlib.Core.Path.{_≡_};
 ghost use mathlib.Core.Bool.{true};
 ghost use mathlib.Core.List.{[], _∷_};
-ghost use Prim.Native.Nat.{_+_, _*_, _≤_};
+ghost use Prim.Native.Nat.{_+_, _*_, _≤_, _<_};
 ghost use lib.ListN.{length, take, drop};
 ghost use Rattle.text.specs.Text.{all, same};
 ghost use Rattle.message_model.specs.Message.{isMessageByte, endsInCR, isNameByte, isName, isNamed, isHeader, separatorsOf, count, atField, leavesBehind, segmentLines, messageFault, messageOf};
 ghost use Rattle.er7_table.specs.Table.{nameAt};
-ghost use Rattle.er7_table.specs.Filling.{LeavesRead};
+ghost use Rattle.er7_table.specs.Filling.{LeafRoom, LeavesRead};
 ghost use Rattle.er7_message.specs.Parsed.{ParsedAs};
 ghost use Rattle.er7_message.specs.Inner.{line, LineEnd, names, Numbered, SegmentRead, Reading, HeaderEnd, faultBy, messageBy, linesFault, linesMessage};
 
@@ -150,8 +150,8 @@ fn read_behind(
     n: usize,
     cells: &mut [usize],
 ) -> usize
-    requires { ⌜ (1 ≤ from) × (field ≤ from) × (from ≤ end) × (end ≤ length (now text)) × (n ≤ 4096) × (4096 * 8 ≤ length (now cells)) ⌝ }
-    ensures { λ r. ⌜ LeavesRead (leavesBehind s (atField field) (drop from (take end (now (text .entry))))) (now (text .entry)) n (now (cells .entry)) (now (cells .exit)) r ⌝ }
+    requires { ⌜ (1 ≤ from) × (field ≤ from) × (from ≤ end) × (end ≤ length (now text)) × (n ≤ 4096) × (n < from) × LeafRoom (now cells) (length (now text)) ⌝ }
+    ensures { λ r. ⌜ LeavesRead (leavesBehind s (atField field) (drop from (take end (now (text .entry))))) (now (text .entry)) end n (now (cells .entry)) (now (cells .exit)) r ⌝ }
 {
     if from == end {
         return n;
@@ -172,8 +172,8 @@ fn read_segment(
     segs: &mut [usize],
     cells: &mut [usize],
 ) -> usize
-    requires { ⌜ (i + 3 ≤ e) × (e ≤ length (now text)) × (1 ≤ k) × (k ≤ 256) × (n ≤ 4096) × (257 * 8 ≤ length (now segs)) × (4096 * 8 ≤ length (now cells)) × Numbered (now segs) k ⌝ }
-    ensures { λ r. ⌜ SegmentRead s (now (text .entry)) (line (now (text .entry)) i e) k n (now (segs .entry)) (now (cells .entry)) (now (segs .exit)) (now (cells .exit)) r ⌝ }
+    requires { ⌜ (i + 3 ≤ e) × (e ≤ length (now text)) × (1 ≤ k) × (k ≤ 256) × (n ≤ 4096) × (n ≤ i) × (257 * 8 ≤ length (now segs)) × LeafRoom (now cells) (length (now text)) × Numbered (now segs) k ⌝ }
+    ensures { λ r. ⌜ SegmentRead s (now (text .entry)) (line (now (text .entry)) i e) e k n (now (segs .entry)) (now (cells .entry)) (now (segs .exit)) (now (cells .exit)) r ⌝ }
 {
     if k == 256 {
         return 4097;
@@ -199,8 +199,8 @@ fn read_header(
     segs: &mut [usize],
     cells: &mut [usize],
 ) -> usize
-    requires { ⌜ (8 ≤ e) × (e ≤ length (now text)) × (isHeader (line (now text) 0 e) ≡ true) × (s ≡ separatorsOf (line (now text) 0 e)) × (257 * 8 ≤ length (now segs)) × (4096 * 8 ≤ length (now cells)) ⌝ }
-    ensures { λ r. ⌜ SegmentRead s (now (text .entry)) (line (now (text .entry)) 0 e) 0 0 (now (segs .entry)) (now (cells .entry)) (now (segs .exit)) (now (cells .exit)) r ⌝ }
+    requires { ⌜ (8 ≤ e) × (e ≤ length (now text)) × (isHeader (line (now text) 0 e) ≡ true) × (s ≡ separatorsOf (line (now text) 0 e)) × (257 * 8 ≤ length (now segs)) × LeafRoom (now cells) (length (now text)) ⌝ }
+    ensures { λ r. ⌜ SegmentRead s (now (text .entry)) (line (now (text .entry)) 0 e) e 0 0 (now (segs .entry)) (now (cells .entry)) (now (segs .exit)) (now (cells .exit)) r ⌝ }
 {
     put_leaf(cells, 0, at_field(1), 3, 1);
     put_leaf(cells, 1, at_field(2), 4, 4);
@@ -222,7 +222,7 @@ fn read_rest(
     segs: &mut [usize],
     cells: &mut [usize],
 ) -> ParsedMessage
-    requires { ⌜ (from ≤ length (now text)) × Reading s (now text) (now segs) (now cells) 1 n0 (segmentLines [] (drop from (now text))) ⌝ }
+    requires { ⌜ (from ≤ length (now text)) × (n0 ≤ from) × Reading s (now text) (now segs) (now cells) 1 n0 (segmentLines [] (drop from (now text))) ⌝ }
     ensures { λ r. ⌜ ParsedAs (now (text .entry)) (faultBy s (now (text .entry))) (messageBy s last (now (text .entry))) (now (segs .exit)) (now (cells .exit)) r ⌝ }
 {
     let mut i = from;
@@ -260,7 +260,7 @@ fn read_lines(
     segs: &mut [usize],
     cells: &mut [usize],
 ) -> ParsedMessage
-    requires { ⌜ HeaderEnd s (now text) e × (257 * 8 ≤ length (now segs)) × (4096 * 8 ≤ length (now cells)) ⌝ }
+    requires { ⌜ HeaderEnd s (now text) e × (257 * 8 ≤ length (now segs)) × LeafRoom (now cells) (length (now text)) ⌝ }
     ensures { λ r. ⌜ ParsedAs (now (text .entry)) (faultBy s (now (text .entry))) (messageBy s last (now (text .entry))) (now (segs .exit)) (now (cells .exit)) r ⌝ }
 {
     let n = read_header(text, e, s, segs, cells);
@@ -280,7 +280,7 @@ fn read_lines(
 
 // Reads the lines of a text; last says whether a CR ends the last one.
 fn parse_lines(text: &[u8], last: bool, segs: &mut [usize], cells: &mut [usize]) -> ParsedMessage
-    requires { ⌜ (257 * 8 ≤ length (now segs)) × (4096 * 8 ≤ length (now cells)) ⌝ }
+    requires { ⌜ (257 * 8 ≤ length (now segs)) × LeafRoom (now cells) (length (now text)) ⌝ }
     ensures { λ r. ⌜ ParsedAs (now (text .entry)) (linesFault (now (text .entry))) (linesMessage last (now (text .entry))) (now (segs .exit)) (now (cells .exit)) r ⌝ }
 {
     let e = line_end(text, 0);
@@ -293,7 +293,7 @@ fn parse_lines(text: &[u8], last: bool, segs: &mut [usize], cells: &mut [usize])
 
 // Reads a message into the two tables, or says what refuses it.
 pub fn parse(text: &[u8], segs: &mut [usize], cells: &mut [usize]) -> ParsedMessage
-    requires { ⌜ (257 * 8 ≤ length (now segs)) × (4096 * 8 ≤ length (now cells)) ⌝ }
+    requires { ⌜ (257 * 8 ≤ length (now segs)) × LeafRoom (now cells) (length (now text)) ⌝ }
     ensures { λ r. ⌜ ParsedAs (now (text .entry)) (messageFault (now (text .entry))) (messageOf (now (text .entry))) (now (segs .exit)) (now (cells .exit)) r ⌝ }
 {
     if 32768 < text.len() {

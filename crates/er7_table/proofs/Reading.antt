@@ -146,6 +146,7 @@ pub record Going (s : Separators) (t : Text) (from : ℕ) (p₀ : Place) (n₀ :
   pub low : n₀ ≤ n
   pub high : n ≤ 4096
   pub inside : i ≤ length t
+  pub ahead : n < i
   pub small : Within p i
   pub whole : leaves s p₀ [] (drop from t) ≡ leavesFrom (λ i. false) cells t n₀ (n - n₀) ++ leaves s p [] (drop i t)
   pub ends : (j : ℕ) → n₀ ≤ j → j < n → cell cells j 1 + cell cells j 2 ≤ length t
@@ -154,13 +155,14 @@ pub record Going (s : Separators) (t : Text) (from : ℕ) (p₀ : Place) (n₀ :
   pub long : length cells ≡ length cells₀
 
 module _ (s : Separators) (t : Text) (from : ℕ) (p₀ : Place) (n₀ : ℕ) (cells₀ : List ℕ) where
-  pub going-start : from ≤ length t → n₀ ≤ 4096 → Within p₀ from → Going s t from p₀ n₀ cells₀ from n₀ p₀ cells₀
+  pub going-start : from ≤ length t → n₀ ≤ 4096 → n₀ < from → Within p₀ from → Going s t from p₀ n₀ cells₀ from n₀ p₀ cells₀
   unfolding leavesFrom listOf
-  going-start h k u =
+  going-start h k a u =
       let z : n₀ - n₀ ≡ 0 = omega arith in record {
         low = omega arith;
         high = k;
         inside = h;
+        ahead = a;
         small = u;
         whole = rw z;
         ends = λ j a b. absurd (omega arith);
@@ -170,10 +172,11 @@ module _ (s : Separators) (t : Text) (from : ℕ) (p₀ : Place) (n₀ : ℕ) (c
       }
 
 module _ {s : Separators} {t : Text} {from : ℕ} {p₀ : Place} {n₀ : ℕ} {cells₀ : List ℕ} {i n : ℕ} {p : Place} {cells : List ℕ} (go : Going s t from p₀ n₀ cells₀ i n p cells) where
-  pub going-full : n ≡ 4096 → LeavesRead (leaves s p₀ [] (drop from t)) t n₀ cells₀ cells 4097
+  pub going-full : n ≡ 4096 → LeavesRead (leaves s p₀ [] (drop from t)) t (length t) n₀ cells₀ cells 4097
   unfolding leavesFrom
   going-full e = record {
     fitted = λ h. absurd (omega (arith, h));
+    few = λ h. absurd (omega (arith, h));
     crowded = λ _. rw (go .whole, length-append, list-length) (omega (arith, leaves-some s (drop i t) [] p, go .low));
     most = omega arith;
     before = go .before;
@@ -208,7 +211,7 @@ module _ {s : Separators} {t : Text} {from : ℕ} {p₀ : Place} {n₀ : ℕ} {c
     before-more : (j k : ℕ) → k < 8 → j < n₀ → cell cells′ j k ≡ cell cells₀ j k
     before-more j k h c = kept j k h (omega (arith, go .low)) ∙ go .before j k h c
 
-    pub going-last : n < 4096 → e ≡ length t → LeavesRead (leaves s p₀ [] (drop from t)) t n₀ cells₀ cells′ (n + 1)
+    pub going-last : n < 4096 → e ≡ length t → LeavesRead (leaves s p₀ [] (drop from t)) t (length t) n₀ cells₀ cells′ (n + 1)
     unfolding leavesFrom
     going-last m q =
         let all : leaves s p₀ [] (drop from t) ≡ leavesFrom (λ i. false) cells′ t n₀ (n + 1 - n₀) =
@@ -220,6 +223,7 @@ module _ {s : Separators} {t : Text} {from : ℕ} {p₀ : Place} {n₀ : ℕ} {c
             ends = ends-more;
             within = within-rows;
           };
+          few = λ _. omega (arith, go .ahead, go .inside);
           crowded = λ h. absurd (omega arith);
           most = omega arith;
           before = before-more;
@@ -230,6 +234,7 @@ module _ {s : Separators} {t : Text} {from : ℕ} {p₀ : Place} {n₀ : ℕ} {c
       low = omega (arith, go .low);
       high = omega arith;
       inside = omega arith;
+      ahead = omega (arith, go .ahead, end .low);
       small = rw np (within-more _ (i + 1) (e + 1) (omega (arith, end .low)) (within-next s (getD t e 0) p i (go .small)));
       whole = go .whole ∙ ap (λ (z : List Leaf). leavesFrom (λ i. false) cells t n₀ (n - n₀) ++ z) (end .runs p ∙ leaves-next s t p _ e q (end .stops q))
           ∙ rw (np, rows-more) (sym (append-snoc (leavesFrom (λ i. false) cells t n₀ (n - n₀)) (leaf p false (some (part t i (e - i)))) (leaves s (next s (getD t e 0) p) [] (drop (e + 1) t))));
@@ -240,7 +245,7 @@ module _ {s : Separators} {t : Text} {from : ℕ} {p₀ : Place} {n₀ : ℕ} {c
     }
 
 -- what was read from the front of a text stands in the text
-pub read-front : {xs : List Leaf} {t : Text} {e n : ℕ} {cells cells′ : List ℕ} {r : ℕ} → e ≤ length t → LeavesRead xs (take e t) n cells cells′ r → LeavesRead xs t n cells cells′ r
+pub read-front : {xs : List Leaf} {t : Text} {e n : ℕ} {cells cells′ : List ℕ} {r : ℕ} → e ≤ length t → LeavesRead xs (take e t) (length (take e t)) n cells cells′ r → LeavesRead xs t e n cells cells′ r
 unfolding leavesFrom leafAt textAt
 read-front {xs} {t} {e} {n} {cells} {cells′} {r} l g =
     let len : length (take e t) ≡ e = length-take-le e t l in
@@ -254,6 +259,7 @@ read-front {xs} {t} {e} {n} {cells} {cells′} {r} l g =
             ends = λ i a b. omega (arith, w .ends i a b, len);
             within = λ i a b. within-more (placeAt cells′ i) (length (take e t)) (length t) (omega (arith, len)) (w .within i a b);
           };
+      few = λ f. omega (arith, g .few f, len);
       crowded = g .crowded;
       most = g .most;
       before = g .before;

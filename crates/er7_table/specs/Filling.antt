@@ -3,7 +3,7 @@ use mathlib.Core.Path.{_≡_}
 use mathlib.Core.Bool.{Bool, true, false, not}
 use mathlib.Core.List.{List, [], _∷_}
 use mathlib.Core.Option.{some}
-use Prim.Native.Nat.{ℕ, _+_, _-_, _≤_, _<_}
+use Prim.Native.Nat.{ℕ, _+_, _-_, _*_, _≤_, _<_}
 use lib.ListN.{length, drop, getD}
 use lib.Dec.{eqb}
 use Rattle.text.specs.Text.{Text, part}
@@ -41,9 +41,15 @@ pub record Filled (xs : List Leaf) (t : Text) (n : ℕ) (cells′ : List ℕ) (r
   pub ends : (i : ℕ) → n ≤ i → i < r → cell cells′ i 1 + cell cells′ i 2 ≤ length t
   pub within : (i : ℕ) → n ≤ i → i < r → Within (placeAt cells′ i) (length t)
 
--- the leaves xs became the rows from n to before r, or there are more than 4096 rows with them; no row before them changed
-pub record LeavesRead (xs : List Leaf) (t : Text) (n : ℕ) (cells cells′ : List ℕ) (r : ℕ) : Type 0 where
+-- the table has a row for each of 4096 leaves, or for as many as m bytes can have
+pub record LeafRoom (cells : List ℕ) (m : ℕ) : Type 0 where
+  pub room : (i : ℕ) → i < 4096 → i < m → i * 8 + 8 ≤ length cells
+
+-- the leaves xs became the rows from n to before r, of which there are no more than bytes before index e; or there are more than 4096 rows
+-- with them; no row before them changed
+pub record LeavesRead (xs : List Leaf) (t : Text) (e n : ℕ) (cells cells′ : List ℕ) (r : ℕ) : Type 0 where
   pub fitted : r ≤ 4096 → Filled xs t n cells′ r
+  pub few : r ≤ 4096 → r ≤ e
   pub crowded : 4096 < r → 4096 < n + length xs
   pub most : r ≤ 4097
   pub before : (i k : ℕ) → k < 8 → i < n → cell cells′ i k ≡ cell cells i k

@@ -5,11 +5,11 @@ use er7::message::Place;
 use er7::separators::Separators;
 ghost use mathlib.Core.Path.{_≡_};
 ghost use mathlib.Core.List.{[]};
-ghost use Prim.Native.Nat.{_+_, _-_, _*_, _^_, _≤_};
+ghost use Prim.Native.Nat.{_+_, _-_, _*_, _^_, _≤_, _<_};
 ghost use lib.ListN.{length, drop};
 ghost use Rattle.message_model.specs.Message as Message;
 ghost use Rattle.er7_table.specs.Table.{Within};
-ghost use Rattle.er7_table.specs.Filling.{LeafEnd, LeafPut, SegmentPut, LeavesRead};
+ghost use Rattle.er7_table.specs.Filling.{LeafEnd, LeafPut, SegmentPut, LeafRoom, LeavesRead};
 
 // Whether b ends a leaf.
 pub fn ends_leaf(s: Separators, b: u8) -> bool
@@ -119,8 +119,8 @@ pub fn read_leaves(
     n0: usize,
     cells: &mut [usize],
 ) -> usize
-    requires { ⌜ (from ≤ length (now text)) × (n0 ≤ 4096) × (4096 * 8 ≤ length (now cells)) × Within place from ⌝ }
-    ensures { λ r. ⌜ LeavesRead (Message.leaves s place [] (drop from (now (text .entry)))) (now (text .entry)) n0 (now (cells .entry)) (now (cells .exit)) r ⌝ }
+    requires { ⌜ (from ≤ length (now text)) × (n0 ≤ 4096) × (n0 < from) × LeafRoom (now cells) (length (now text)) × Within place from ⌝ }
+    ensures { λ r. ⌜ LeavesRead (Message.leaves s place [] (drop from (now (text .entry)))) (now (text .entry)) (length (now (text .entry))) n0 (now (cells .entry)) (now (cells .exit)) r ⌝ }
 {
     let mut i = from;
     let mut n = n0;

@@ -3,7 +3,7 @@ use mathlib.Core.Path.{_≡_, refl, sym, ap, _∙_}
 use mathlib.Core.Bool.{Bool, true, false, cond}
 use mathlib.Core.List.{List}
 use mathlib.Core.Option.{none}
-use Prim.Native.Nat.{ℕ, _≤_, _<_}
+use Prim.Native.Nat.{ℕ, _*_, _≤_, _<_}
 use native.Mathlib.Omega.{arith}
 use borrow.Author.Tests.{lt-ltb, le-ltb, ltb-false}
 use lib.Dec.{ltb}
@@ -18,6 +18,7 @@ use Rattle.policy_model.specs.Policy as Q
 use Rattle.policy_model.specs.Policy.{Policy, PolicyRead, read, readPolicy}
 use Rattle.run_model.specs.Redact.{Redacted, redact}
 use Rattle.run_model.specs.Entries.{Answer, done, refused, outcome, withoutFault, reported}
+use Rattle.er7_table.specs.Filling.{LeafRoom}
 use Rattle.er7_message.specs.Parsed.{faultOf, ParsedAs}
 use Rattle.er7_message.specs.declared.message.Counts.{Counts}
 use Rattle.er7_message.specs.declared.message.ParsedMessage.{ParsedMessage}
@@ -99,3 +100,13 @@ read-not-long t p e = go (ltb 32768 (length t)) refl _ e
     go : (b : Bool) → ltb 32768 (length t) ≡ b → (o : PolicyRead) → cond b (Q.refused TooLong 0) o ≡ read p → length t ≤ 32768
     go true q o h = clash (sym (ap is-read h))
     go false q o h = ltb-false 32768 (length t) q
+
+-- ---- room in the table of leaves
+
+-- for as many as a message of m bytes can have
+pub short-room : (cells : List ℕ) (m : ℕ) → m * 8 ≤ length cells → LeafRoom cells m
+short-room cells m h = record { room = λ i a b. omega arith }
+
+-- or for 4096
+pub full-room : (cells : List ℕ) (m : ℕ) → 4096 * 8 ≤ length cells → LeafRoom cells m
+full-room cells m h = record { room = λ i a b. omega arith }

@@ -15,7 +15,7 @@ use redact_pass::leaf::Done;
 use redact_run::run::run_all;
 use refusal::Refusal;
 ghost use mathlib.Core.Path.{_≡_};
-ghost use Prim.Native.Nat.{ℕ, _≤_};
+ghost use Prim.Native.Nat.{ℕ, _*_, _≤_};
 ghost use lib.ListN.{length};
 ghost use Rattle.text.specs.Text.{Text};
 ghost use Rattle.message_model.specs.Message.{messageOf, messageFault};
@@ -23,6 +23,7 @@ ghost use Rattle.policy_model.specs.Policy as Model;
 ghost use Rattle.policy.specs.Policy.{asPolicy, PolicyHeld};
 ghost use Rattle.run_model.specs.Redact as Redact;
 ghost use Rattle.run_model.specs.Entries.{outcome, withoutFault, reported, redactOutcome};
+ghost use Rattle.er7_table.specs.Filling.{LeafRoom};
 ghost use Rattle.er7_table.specs.Table.{Segmented};
 ghost use Rattle.er7_render.specs.Rendered.{AllNamed};
 ghost use Rattle.redact_run.specs.Ran.{Ran};
@@ -89,7 +90,39 @@ fn redact_read(
     }
 }
 
-// Redacts a message by a policy whose text is text.
+// Redacts a message by a policy whose text is text; segs and cells are for its tables.
+fn redact_in(
+    message: &[u8],
+    policy: Policy,
+    text: &[u8],
+    key: u64,
+    segs: &mut [usize],
+    cells: &mut [usize],
+    output: &mut [u8],
+    report: &mut [u8],
+    scratch: &mut [u8],
+) -> Handed
+    requires { ⌜ PolicyHeld (now text) policy × (length (now text) ≤ 32768) × (257 * 8 ≤ length (now segs)) × LeafRoom (now cells) (length (now message)) × (49152 ≤ length (now output)) × (49152 ≤ length (now scratch)) ⌝ }
+    ensures { λ r. ⌜ asOutcome r (now (output .exit)) (now (report .exit)) (now (scratch .exit)) ≡ outcome (lent (length (now (output .entry))) (length (now (report .entry))) (length (now (scratch .entry)))) (withoutFault (messageFault (now (message .entry))) (reported (lent (length (now (output .entry))) (length (now (report .entry))) (length (now (scratch .entry)))) (Redact.redact key (asPolicy (now (text .entry)) policy) (messageOf (now (message .entry)))))) ⌝ }
+{
+    match message::parse(message, segs, cells) {
+        ParsedMessage::Read(counts) => redact_read(
+            counts,
+            policy,
+            text,
+            message,
+            key,
+            segs,
+            cells,
+            output,
+            report,
+            scratch,
+        ),
+        ParsedMessage::Refused(refusal) => refuse(refusal, 0, output, report, scratch),
+    }
+}
+
+// The same, with tables for as many leaves as a short message can have, or for 4096.
 fn redact_message(
     message: &[u8],
     policy: Policy,
@@ -103,22 +136,32 @@ fn redact_message(
     ensures { λ r. ⌜ asOutcome r (now (output .exit)) (now (report .exit)) (now (scratch .exit)) ≡ outcome (lent (length (now (output .entry))) (length (now (report .entry))) (length (now (scratch .entry)))) (withoutFault (messageFault (now (message .entry))) (reported (lent (length (now (output .entry))) (length (now (report .entry))) (length (now (scratch .entry)))) (Redact.redact key (asPolicy (now (text .entry)) policy) (messageOf (now (message .entry)))))) ⌝ }
 {
     let mut segs = [0usize; 2056];
-    let mut cells = [0usize; 32768];
-    match message::parse(message, &mut segs, &mut cells) {
-        ParsedMessage::Read(counts) => redact_read(
-            counts,
+    if message.len() <= 1024 {
+        let mut few = [0usize; 8192];
+        return redact_in(
+            message,
             policy,
             text,
-            message,
             key,
-            &segs,
-            &mut cells,
+            &mut segs,
+            &mut few,
             output,
             report,
             scratch,
-        ),
-        ParsedMessage::Refused(refusal) => refuse(refusal, 0, output, report, scratch),
+        );
     }
+    let mut cells = [0usize; 32768];
+    redact_in(
+        message,
+        policy,
+        text,
+        key,
+        &mut segs,
+        &mut cells,
+        output,
+        report,
+        scratch,
+    )
 }
 
 // The message as the policy leaves it, in output, and a row for each change, in report; or a refusal. The scratch is for work.

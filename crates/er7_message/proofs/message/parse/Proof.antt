@@ -4,6 +4,8 @@ use borrow.Author.Needs.{needs}
 use native.Mathlib.Omega.{arith}
 use borrow.Author.Tests.{not-true, not-false}
 use Rattle.er7_message.proofs.Parsing.{message-long, message-foreign, cr-long, message-ended, message-open}
+use lib.ListN.{length-take}
+use Rattle.er7_message.proofs.Reading.{room-front}
 
 returns : tie.Need-returns
 returns c = message-long _ (omega arith) _ _ _
@@ -30,7 +32,7 @@ part-parse-lines-end : tie.Need-part-parse-lines-end
 part-parse-lines-end c = search needs
 
 parse-lines-requires : tie.Need-parse-lines-requires
-parse-lines-requires c κs = search needs
+parse-lines-requires c κs = (search needs, room-front (c .before .before .before .before .before .before .before .before .before .before .before .pre .1) (simp length-take (omega arith)))
 
 same-length : tie.Need-same-length
 same-length c = search needs

@@ -3,9 +3,11 @@ use Rattle.er7_message.proofs.message.read_behind.Tie as tie
 use borrow.Author.Needs.{needs}
 use native.Mathlib.Omega.{arith}
 use Rattle.er7_message.proofs.Segments.{next-at, field-within, within-behind, behind-none, behind-some}
+use lib.ListN.{length-take}
+use Rattle.er7_message.proofs.Reading.{room-front}
 
 returns : tie.Need-returns
-returns c = behind-none _ _ _ _ _ _ _ (c .if1 .taken) (omega arith)
+returns c = behind-none _ _ _ _ _ _ _ (c .if1 .taken) (omega arith) (omega arith)
 
 shared-slice-read-next : tie.Need-shared-slice-read-next
 shared-slice-read-next c = search needs
@@ -29,7 +31,7 @@ add-read-leaves : tie.Need-add-read-leaves
 add-read-leaves c = search needs
 
 read-leaves-requires : tie.Need-read-leaves-requires
-read-leaves-requires c κs = (search needs, search needs, search needs, within-behind _ _ _ _ (next-at _ _ _ (c .before .before .next .ensures) (c .before .before .before .at-field .ensures)) (omega arith) (omega arith))
+read-leaves-requires c κs = (search needs, search needs, omega arith, room-front (c .before .before .before .before .before .before .before .before .pre .6) (simp length-take (omega arith)), within-behind _ _ _ _ (next-at _ _ _ (c .before .before .next .ensures) (c .before .before .before .at-field .ensures)) (omega arith) (omega arith))
 
 same-length : tie.Need-same-length
 same-length c = search needs

@@ -3,21 +3,22 @@ use Rattle.er7_message.proofs.message.read_header.Tie as tie
 use borrow.Author.Needs.{needs}
 use native.Mathlib.Omega.{arith}
 use Rattle.er7_message.proofs.Segments.{put-at, header-crowded, header-fits}
+use Rattle.er7_message.proofs.Reading.{room-kept}
 
 at-field-requires : tie.Need-at-field-requires
 at-field-requires c κs = search needs
 
 put-leaf-requires : tie.Need-put-leaf-requires
-put-leaf-requires c κs = search needs
+put-leaf-requires c κs = omega (arith, c .before .before .before .before .before .pre .5 .room 0 (omega arith) (omega (arith, c .before .before .before .before .before .pre .0, c .before .before .before .before .before .pre .1)))
 
 at-field-requires-2 : tie.Need-at-field-requires-2
 at-field-requires-2 c κs = search needs
 
 put-leaf-requires-2 : tie.Need-put-leaf-requires-2
-put-leaf-requires-2 c κs = search needs
+put-leaf-requires-2 c κs = search (needs, c .before .before .before .before .before .before .before .before .before .before .pre .5 .room 1 (omega arith) (omega (arith, c .before .before .before .before .before .before .before .before .before .before .pre .0, c .before .before .before .before .before .before .before .before .before .before .pre .1)))
 
 read-behind-requires : tie.Need-read-behind-requires
-read-behind-requires c κs = search needs
+read-behind-requires c κs = (omega arith, omega arith, c .before .before .before .before .before .before .before .before .before .before .before .before .before .before .pre .0, c .before .before .before .before .before .before .before .before .before .before .before .before .before .before .pre .1, omega arith, omega arith, room-kept (c .before .before .before .before .before .before .before .before .before .before .before .before .before .before .pre .5) (search needs))
 
 same-length : tie.Need-same-length
 same-length c = search needs

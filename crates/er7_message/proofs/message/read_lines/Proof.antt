@@ -3,6 +3,7 @@ use Rattle.er7_message.proofs.message.read_lines.Tie as tie
 use borrow.Author.Needs.{needs}
 use native.Mathlib.Omega.{arith}
 use Rattle.er7_message.proofs.Reading.{header-crowded, header-on, header-done}
+use Rattle.er7_message.proofs.Reading.{room-kept}
 
 read-header-requires : tie.Need-read-header-requires
 read-header-requires c κs = (c .before .before .before .before .before .pre .0 .long, c .before .before .before .before .before .pre .0 .end .high, c .before .before .before .before .before .pre .0 .header, c .before .before .before .before .before .pre .0 .named, search needs, search needs)
@@ -23,13 +24,13 @@ same-length-4 : tie.Need-same-length-4
 same-length-4 c = search needs
 
 returns-2 : tie.Need-returns-2
-returns-2 c = header-done (c .before .before .before .before .before .before .before .before .before .before .before .before .pre .0 .end) (c .before .before .before .before .before .before .read-header .ensures) (c .before .before .before .before .before .before .before .before .before .before .before .before .pre .1) (c .before .before .before .before .before .before .before .before .before .before .before .before .pre .2) (omega arith) (search needs) (search needs) (c .if2 .taken) _
+returns-2 c = header-done (c .before .before .before .before .before .before .before .before .before .before .before .before .pre .0 .end) (c .before .before .before .before .before .before .read-header .ensures) (c .before .before .before .before .before .before .before .before .before .before .before .before .pre .1) (c .before .before .before .before .before .before .before .before .before .before .before .before .pre .2) (omega arith) (search needs) (room-kept (c .before .before .before .before .before .before .before .before .before .before .before .before .pre .2) (search needs)) (c .if2 .taken) _
 
 add-read-rest : tie.Need-add-read-rest
 add-read-rest c = search needs
 
 read-rest-requires : tie.Need-read-rest-requires
-read-rest-requires c κs = (omega (arith, c .before .before .before .before .before .before .before .before .before .before .before .before .before .before .pre .0 .end .high, c .before .before .if2 .left), header-on (c .before .before .before .before .before .before .before .before .before .before .before .before .before .before .pre .0 .end) (c .before .before .before .before .before .before .before .before .read-header .ensures) (c .before .before .before .before .before .before .before .before .before .before .before .before .before .before .pre .1) (c .before .before .before .before .before .before .before .before .before .before .before .before .before .before .pre .2) (omega arith) (search needs) (search needs) (omega (arith, c .before .before .before .before .before .before .before .before .before .before .before .before .before .before .pre .0 .end .high, c .before .before .if2 .left)))
+read-rest-requires c κs = (omega (arith, c .before .before .before .before .before .before .before .before .before .before .before .before .before .before .pre .0 .end .high, c .before .before .if2 .left), omega (arith, c .before .before .before .before .before .before .before .before .read-header .ensures .few (omega (arith, c .before .before .before .if1 .left))), header-on (c .before .before .before .before .before .before .before .before .before .before .before .before .before .before .pre .0 .end) (c .before .before .before .before .before .before .before .before .read-header .ensures) (c .before .before .before .before .before .before .before .before .before .before .before .before .before .before .pre .1) (c .before .before .before .before .before .before .before .before .before .before .before .before .before .before .pre .2) (omega arith) (search needs) (room-kept (c .before .before .before .before .before .before .before .before .before .before .before .before .before .before .pre .2) (search needs)) (omega (arith, c .before .before .before .before .before .before .before .before .before .before .before .before .before .before .pre .0 .end .high, c .before .before .if2 .left)))
 
 same-length-5 : tie.Need-same-length-5
 same-length-5 c = search needs

@@ -12,7 +12,7 @@ abbrev μ-loop : tie.MeasureT-loop
 μ-loop text from s n0 cells₀ i₀ n₀ p₀ cells i n p = 4096 - n
 
 loop-holds : tie.Need-loop-holds Inv-loop μ-loop
-loop-holds c = going-start _ _ _ _ _ _ (omega arith) (omega arith) (c .before .before .pre .3)
+loop-holds c = going-start _ _ _ _ _ _ (omega arith) (omega arith) (omega arith) (c .before .before .pre .4)
 
 same-length : tie.Need-same-length Inv-loop μ-loop
 same-length c = search needs
@@ -27,7 +27,7 @@ sub-put-leaf : tie.Need-sub-put-leaf Inv-loop μ-loop
 sub-put-leaf c = search needs
 
 put-leaf-requires : tie.Need-put-leaf-requires Inv-loop μ-loop
-put-leaf-requires c κs = search needs
+put-leaf-requires c κs = omega (arith, c .before .before .before .before .before .before .pre .3 .room (c .before .before .before .loop .n) (omega (arith, c .before .before .before .loop .inv .high, c .before .before .if1 .left)) (omega (arith, c .before .before .before .loop .inv .ahead, c .before .before .before .loop .inv .inside)), c .before .before .before .loop .inv .long)
 
 add-n : tie.Need-add-n Inv-loop μ-loop
 add-n c = search needs

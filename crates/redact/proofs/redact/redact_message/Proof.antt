@@ -3,39 +3,18 @@ use Rattle.redact.proofs.redact.redact_message.Statement.{statement}
 use Rattle.redact.proofs.redact.redact_message.Tie as tie
 use Rattle.redact.proofs.redact.redact_message.Reads as reads
 use Rattle.redact.proofs.redact.redact_message.Lts as lts
-use Rattle.entries.proofs.handed.refuse.Reads as refuse-reads
-use Rattle.er7_message.proofs.message.parse.Reads as parse-reads
-use Rattle.redact.proofs.redact.redact_read.Reads as redact-read-reads
-use mathlib.Core.Path.{ap, _∙_}
-use Rattle.run_model.specs.Entries.{outcome}
-use Rattle.redact.proofs.Laws.{parsed-read, no-message-fault, message-refused}
+use Rattle.redact.proofs.redact.redact_in.Reads as redact-in-reads
+use native.Mathlib.Omega.{arith}
+use Rattle.redact.proofs.Laws.{short-room, full-room}
 
-slice-aggregate-parse : tie.Need-slice-aggregate-parse
-slice-aggregate-parse c = search needs
+slice-aggregate-redact-in : tie.Need-slice-aggregate-redact-in
+slice-aggregate-redact-in c = search needs
 
-slice-aggregate-parse-2 : tie.Need-slice-aggregate-parse-2
-slice-aggregate-parse-2 c = search needs
+slice-aggregate-redact-in-2 : tie.Need-slice-aggregate-redact-in-2
+slice-aggregate-redact-in-2 c = search needs
 
-parse-requires : tie.Need-parse-requires
-parse-requires c κs = search needs
-
-enum-known-counts : tie.Need-enum-known-counts
-enum-known-counts c = search needs
-
-slice-aggregate-redact-read : tie.Need-slice-aggregate-redact-read
-slice-aggregate-redact-read c = search needs
-
-slice-aggregate-redact-read-2 : tie.Need-slice-aggregate-redact-read-2
-slice-aggregate-redact-read-2 c = search needs
-
-redact-read-requires : tie.Need-redact-read-requires
-redact-read-requires c κs = (c .before .before .before .before .before .before .before .before .before .before .before .before .before .before .before .before .before .before .pre .0, parsed-read (c .before .before .before .before .before .before .before .before .before .before .parse .ensures) (c .before .before .before .before .before .before .counts .given .1) (c .before .before .before .before .before .before .before .before .before .before .before .before .before .before .before .before .before .before .pre .1), c .before .before .before .before .before .before .before .before .before .before .before .before .before .before .before .before .before .before .pre .2, c .before .before .before .before .before .before .before .before .before .before .before .before .before .before .before .before .before .before .pre .3)
-
-enum-known-refusal : tie.Need-enum-known-refusal
-enum-known-refusal c = search needs
-
-refuse-requires : tie.Need-refuse-requires
-refuse-requires c κs = search needs
+redact-in-requires : tie.Need-redact-in-requires
+redact-in-requires c κs = (c .before .before .before .before .before .before .before .before .before .before .before .pre .0, c .before .before .before .before .before .before .before .before .before .before .before .pre .1, search needs, short-room _ _ (omega (arith, c .before .before .before .before .before .if1 .taken)), c .before .before .before .before .before .before .before .before .before .before .before .pre .2, c .before .before .before .before .before .before .before .before .before .before .before .pre .3)
 
 same-length : tie.Need-same-length
 same-length c = search needs
@@ -47,7 +26,16 @@ same-length-3 : tie.Need-same-length-3
 same-length-3 c = search needs
 
 returns : tie.Need-returns
-returns c = c .before .before .before .before .before .before .before .redact-read .ensures ∙ ap (outcome _) (no-message-fault (c .before .before .before .before .before .before .before .before .before .before .before .before .before .before .before .before .before .before .parse .ensures) (c .before .before .before .before .before .before .before .before .before .before .before .before .before .before .counts .given .1) _)
+returns c = search needs
+
+slice-aggregate-redact-in-3 : tie.Need-slice-aggregate-redact-in-3
+slice-aggregate-redact-in-3 c = search needs
+
+slice-aggregate-redact-in-4 : tie.Need-slice-aggregate-redact-in-4
+slice-aggregate-redact-in-4 c = search needs
+
+redact-in-requires-2 : tie.Need-redact-in-requires-2
+redact-in-requires-2 c κs = (c .before .before .before .before .before .before .before .before .before .before .before .pre .0, c .before .before .before .before .before .before .before .before .before .before .before .pre .1, search needs, full-room _ _ (search needs), c .before .before .before .before .before .before .before .before .before .before .before .pre .2, c .before .before .before .before .before .before .before .before .before .before .before .pre .3)
 
 same-length-4 : tie.Need-same-length-4
 same-length-4 c = search needs
@@ -59,25 +47,22 @@ same-length-6 : tie.Need-same-length-6
 same-length-6 c = search needs
 
 returns-2 : tie.Need-returns-2
-returns-2 c = c .before .before .before .before .before .before .refuse .ensures ∙ ap (outcome _) (message-refused (c .before .before .before .before .before .before .before .before .before .before .before .before .before .before .before .parse .ensures) (c .before .before .before .before .before .before .before .before .before .before .before .refusal .given .1) _)
+returns-2 c = search needs
 
 pub redact-message-spec : {M : Type 1} → statement M
 redact-message-spec =
     tie.close
     (tie.spec
-    slice-aggregate-parse
-    slice-aggregate-parse-2
-    parse-requires
-    enum-known-counts
-    slice-aggregate-redact-read
-    slice-aggregate-redact-read-2
-    redact-read-requires
-    enum-known-refusal
-    refuse-requires
+    slice-aggregate-redact-in
+    slice-aggregate-redact-in-2
+    redact-in-requires
     same-length
     same-length-2
     same-length-3
     returns
+    slice-aggregate-redact-in-3
+    slice-aggregate-redact-in-4
+    redact-in-requires-2
     same-length-4
     same-length-5
     same-length-6
