@@ -3,12 +3,14 @@
  * of rows; or which refusal there was.
  */
 #include "er7_redact.h"
+#include <ctype.h>
+#include <errno.h>
 #include <inttypes.h>
 #include <stdio.h>
 #include <stdlib.h>
 
 static uint8_t message[ER7_INPUT_MAX + 1], policy[ER7_INPUT_MAX + 1];
-static uint8_t output[ER7_BENCH], report[65536], scratch[ER7_BENCH];
+static uint8_t output[ER7_BUFFER_MIN], report[65536], scratch[ER7_BUFFER_MIN];
 
 /* Reads a file, one byte past the limit at most: then the redactor refuses it as too long. */
 static size_t load(const char *name, uint8_t *bytes, size_t size) {
@@ -22,10 +24,23 @@ static size_t load(const char *name, uint8_t *bytes, size_t size) {
     return n;
 }
 
+/* Reads the key: decimal digits up to 18446744073709551615, then at most one LF. Anything else ends the program: a key that is taken for
+ * another gives pseudonyms that anyone could make. */
+static uint64_t load_key(const char *name) {
+    char text[64] = {0};
+    size_t n = load(name, (uint8_t *)text, sizeof text - 1);
+    char *end;
+    errno = 0;
+    uint64_t key = strtoull(text, &end, 10);
+    if (!isdigit((unsigned char)text[0]) || errno != 0 || n == sizeof text - 1 || text + n != end + (*end == '\n')) {
+        fprintf(stderr, "%s: no key\n", name);
+        exit(2);
+    }
+    return key;
+}
+
 int main(void) {
-    uint8_t digits[32] = {0};
-    load("key.txt", digits, sizeof digits - 1);
-    uint64_t key = strtoull((char *)digits, NULL, 10);
+    uint64_t key = load_key("key.txt");
     size_t message_size = load("message.er7", message, sizeof message);
     size_t policy_size = load("policy.txt", policy, sizeof policy);
 

@@ -16,7 +16,7 @@ static void check(const char *name, int fine) {
 
 /* ---- buffers: lent from the middle of a larger piece, so that a write outside shows */
 
-enum { GUARD = 64, USED = 0xaa, WIDE = ER7_BENCH, REPORT = 65536 };
+enum { GUARD = 64, USED = 0xaa, WIDE = ER7_BUFFER_MIN, REPORT = 65536 };
 
 typedef struct {
     uint8_t *bytes; /* NULL for no bytes */

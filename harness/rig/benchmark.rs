@@ -19,13 +19,13 @@ unsafe extern "C" {
 
 const KEY: u64 = 7;
 
-struct Bench {
+struct Buffers {
     output: Vec<u8>,
     report: Vec<u8>,
     scratch: Vec<u8>,
 }
 
-impl Bench {
+impl Buffers {
     fn port(&mut self, message: &[u8], policy: &[u8]) -> (u32, u64, u64, u64) {
         let (mut text, mut report, mut rows, mut line) = (0, 0, 0, 0);
         let number = unsafe {
@@ -92,18 +92,18 @@ struct Times {
     rows: u64,
 }
 
-fn measure(bench: &mut Bench, message: &[u8], policy: &[u8]) -> Times {
+fn measure(buffers: &mut Buffers, message: &[u8], policy: &[u8]) -> Times {
     let (text, report, count) = rust(message, policy);
-    let (number, t, r, rows) = bench.port(message, policy);
+    let (number, t, r, rows) = buffers.port(message, policy);
     assert_eq!(number, 0, "refused");
-    assert_eq!((text.as_bytes(), report.as_bytes(), count as u64), (&bench.output[..t as usize], &bench.report[..r as usize], rows));
-    let mut other = Bench { output: vec![1; 49_152], report: vec![1; 65_536], scratch: vec![1; 49_152] };
+    assert_eq!((text.as_bytes(), report.as_bytes(), count as u64), (&buffers.output[..t as usize], &buffers.report[..r as usize], rows));
+    let mut other = Buffers { output: vec![1; 49_152], report: vec![1; 65_536], scratch: vec![1; 49_152] };
     let [rust, port, floor] = times([
         &mut || {
             black_box(rust(black_box(message), black_box(policy)));
         },
         &mut || {
-            black_box(bench.port(black_box(message), black_box(policy)));
+            black_box(buffers.port(black_box(message), black_box(policy)));
         },
         &mut || {
             black_box(other.floor(black_box(message)));
@@ -146,7 +146,7 @@ fn forty() -> String {
 }
 
 /// 4,096 leaves under 128 rules.
-fn crowded() -> (String, String) {
+fn many_leaves() -> (String, String) {
     let mut text = "MSH|^~\\&".to_string();
     for i in 0..30 {
         text += &format!("|{i}");
@@ -205,22 +205,22 @@ fn print_line(name: &str, message: &str, t: &Times, bar: &str) {
 }
 
 fn main() {
-    let mut bench = Bench { output: vec![1; 49_152], report: vec![1; 65_536], scratch: vec![1; 49_152] };
+    let mut buffers = Buffers { output: vec![1; 49_152], report: vec![1; 65_536], scratch: vec![1; 49_152] };
     let builtin = |p: Policy| p.to_string();
-    let (crowded, crowding) = crowded();
+    let (many, reaching) = many_leaves();
     let (swept, sweeping) = swept();
     let cases = [
         ("a  4 OBX, six-line gym policy", log(4), GYM.to_string(), 0.5),
         ("b  100 OBX, built-in 2", log(100), builtin(Policy::patient_identifiers()), 0.25),
         ("c  100 OBX, built-in 1", log(100), builtin(Policy::reject_all()), 0.25),
         ("d  100 OBX, 40 rules on OBX", log(100), forty(), 0.25),
-        ("e  4,096 leaves, 128 rules", crowded, crowding, 1.0),
+        ("e  4,096 leaves, 128 rules", many, reaching, 1.0),
         ("f  sweep with 512 learnt values", swept, sweeping, 1.0),
     ];
     println!("{:34}{:>7}{:>7}{:>11}{:>11}{:>8}{:>6}{:>10}{:>12}", "microseconds per call", "bytes", "rows", "Rust", "port", "ratio", "bar", "floor", "port/floor");
     let mut met = 0;
     for (name, message, policy, bar) in &cases {
-        let t = measure(&mut bench, message.as_bytes(), policy.as_bytes());
+        let t = measure(&mut buffers, message.as_bytes(), policy.as_bytes());
         print_line(name, message, &t, &bar.to_string());
         met += u32::from(t.port <= bar * t.rust);
     }
@@ -230,7 +230,7 @@ fn main() {
         let mut ends = Vec::new();
         for kilobytes in [1, 2, 4, 8, 16, 32] {
             let message = log_of(kilobytes);
-            let t = measure(&mut bench, message.as_bytes(), policy.as_bytes());
+            let t = measure(&mut buffers, message.as_bytes(), policy.as_bytes());
             print_line(&format!("{kilobytes} KB, {name}"), &message, &t, "");
             ends.push(t.port);
         }

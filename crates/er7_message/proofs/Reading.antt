@@ -175,10 +175,10 @@ fault-bad : (s : Separators) (k n : ℕ) (l : Text) (ls : List Text) → eqb k 0
 unfolding segmentsFault
 fault-bad s k n l ls e = rw e
 
-fault-crowded : (s : Separators) (k n : ℕ) (l : Text) (ls : List Text) → eqb k 0 || isNamed s l ≡ true → leb 256 k || ltb 4096 (n + length (leavesOf s (eqb k 0) l)) ≡ true
+fault-too-many : (s : Separators) (k n : ℕ) (l : Text) (ls : List Text) → eqb k 0 || isNamed s l ≡ true → leb 256 k || ltb 4096 (n + length (leavesOf s (eqb k 0) l)) ≡ true
     → segmentsFault s k n (l ∷ ls) ≡ some TooMany
 unfolding segmentsFault
-fault-crowded s k n l ls e q = rw (e, q)
+fault-too-many s k n l ls e q = rw (e, q)
 
 refused : {t : Text} {f : Option Refusal} (e : Refusal) → f ≡ some e → (m : Message) (segs cells : List ℕ) → ParsedAs t f m segs cells (Refused e)
 unfolding faultOf
@@ -217,10 +217,10 @@ module _ {s : Separators} {t : Text} {segs cells : List ℕ} {k n i e : ℕ} (go
       refused BadSegment (go .fault ∙ ap (segmentsFault s k n) (ls .1) ∙ fault-bad s k n (line t i e) (ls .0) q) m segs′ cells′
 
   module _ (q : eqb k 0 || isNamed s (line t i e) ≡ true) {segs′ cells′ : List ℕ} {r : ℕ} (w : SegmentRead s t (line t i e) e k n segs cells segs′ cells′ r) where
-    pub line-crowded : 4096 < r → (m : Message) (segs″ cells″ : List ℕ) → ParsedAs t (faultBy s t) m segs″ cells″ (Refused TooMany)
-    line-crowded h m segs″ cells″ =
+    pub line-too-many : 4096 < r → (m : Message) (segs″ cells″ : List ℕ) → ParsedAs t (faultBy s t) m segs″ cells″ (Refused TooMany)
+    line-too-many h m segs″ cells″ =
         let ls = line-some g in
-        refused TooMany (go .fault ∙ ap (segmentsFault s k n) (ls .1) ∙ fault-crowded s k n (line t i e) (ls .0) q (w .crowded h)) m segs″ cells″
+        refused TooMany (go .fault ∙ ap (segmentsFault s k n) (ls .1) ∙ fault-too-many s k n (line t i e) (ls .0) q (w .too-many h)) m segs″ cells″
 
     module _ (h : r ≤ 4096) (long : 257 * 8 ≤ length segs′) (long′ : LeafRoom cells′ (length t)) where
       pub line-on : e < length t → Reading s t segs′ cells′ (k + 1) r (segmentLines [] (drop (e + 1) t))
@@ -236,8 +236,8 @@ judged k h b e f = rw (ne-eqb k 0 (λ q. absurd (omega arith))) (sym e ∙ f)
 -- ---- the header, which is the first line
 module _ {s : Separators} {t : Text} {segs cells segs′ cells′ : List ℕ} {e r : ℕ} (g : LineEnd t 0 e) (w : SegmentRead s t (line t 0 e) e 0 0 segs cells segs′ cells′ r)
     (room : 257 * 8 ≤ length segs) (room′ : LeafRoom cells (length t)) where
-  pub header-crowded : 4096 < r → (m : Message) (segs″ cells″ : List ℕ) → ParsedAs t (faultBy s t) m segs″ cells″ (Refused TooMany)
-  header-crowded h = line-crowded (reading-start s t segs cells room room′) g refl w h
+  pub header-too-many : 4096 < r → (m : Message) (segs″ cells″ : List ℕ) → ParsedAs t (faultBy s t) m segs″ cells″ (Refused TooMany)
+  header-too-many h = line-too-many (reading-start s t segs cells room room′) g refl w h
 
   module _ (h : r ≤ 4096) (long : 257 * 8 ≤ length segs′) (long′ : LeafRoom cells′ (length t)) where
     pub header-on : e < length t → Reading s t segs′ cells′ 1 r (segmentLines [] (drop (e + 1) t))

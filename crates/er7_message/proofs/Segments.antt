@@ -62,7 +62,7 @@ module _ (s : Separators) (t : Text) (from end field n : ℕ) (cells : List ℕ)
       rw d (record {
         fitted = λ _. record { count = omega arith; are = rw z; ends = λ i a b. absurd (omega arith); within = λ i a b. absurd (omega arith) };
         few = λ _. omega arith;
-        crowded = λ k. absurd (omega arith);
+        too-many = λ k. absurd (omega arith);
         most = omega arith;
         before = λ _ _ _ _. refl;
       })
@@ -116,16 +116,16 @@ module _ (s : Separators) (t : Text) (i e k n : ℕ) (segs cells : List ℕ) whe
   segment-257 segs′ cells′ q = record {
     fitted = λ h. absurd (omega (arith, h));
     few = λ h. absurd (omega (arith, h));
-    crowded = λ _. rw (le-leb 256 k (omega arith));
+    too-many = λ _. rw (le-leb 256 k (omega arith));
     most = omega arith;
   }
 
   module _ (one : 1 ≤ k) {cells′ : List ℕ} {m : ℕ} (g : LeavesRead (leavesBehind s (atField 0) (drop (i + 3) (take e t))) t e n cells cells′ m) where
-    pub segment-crowded : (segs′ : List ℕ) → 4096 < m → SegmentRead s t (line t i e) e k n segs cells segs′ cells′ 4097
-    segment-crowded segs′ h = record {
+    pub segment-too-many : (segs′ : List ℕ) → 4096 < m → SegmentRead s t (line t i e) e k n segs cells segs′ cells′ 4097
+    segment-too-many segs′ h = record {
       fitted = λ h. absurd (omega (arith, h));
       few = λ h. absurd (omega (arith, h));
-      crowded = λ _. rw (leaves-are one, lt-ltb 4096 (n + length (leavesBehind s (atField 0) (drop (i + 3) (take e t)))) (g .crowded h)) (or-true (leb 256 k));
+      too-many = λ _. rw (leaves-are one, lt-ltb 4096 (n + length (leavesBehind s (atField 0) (drop (i + 3) (take e t)))) (g .too-many h)) (or-true (leb 256 k));
       most = omega arith;
     }
 
@@ -143,7 +143,7 @@ module _ (s : Separators) (t : Text) (i e k n : ℕ) (segs cells : List ℕ) whe
         before = g .before;
       };
       few = g .few;
-      crowded = λ x. absurd (omega arith);
+      too-many = λ x. absurd (omega arith);
       most = omega arith;
     }
 
@@ -181,11 +181,11 @@ module _ (s : Separators) (t : Text) (e : ℕ) (long : 8 ≤ e) (inside : e ≤ 
 
   module _ {cells cells₁ cells₂ cells′ : List ℕ} {r : ℕ} (p : LeafPut cells 0 (inField 1) 3 1 cells₁) (q : LeafPut cells₁ 1 (inField 2) 4 4 cells₂)
       (g : LeavesRead (leavesBehind s (atField 2) (drop 8 (take e t))) t e 2 cells₂ cells′ r) where
-    pub header-crowded : (segs segs′ : List ℕ) → 4096 < r → SegmentRead s t (line t 0 e) e 0 0 segs cells segs′ cells′ 4097
-    header-crowded segs segs′ h = record {
+    pub header-too-many : (segs segs′ : List ℕ) → 4096 < r → SegmentRead s t (line t 0 e) e 0 0 segs cells segs′ cells′ 4097
+    header-too-many segs segs′ h = record {
       fitted = λ h. absurd (omega (arith, h));
       few = λ h. absurd (omega (arith, h));
-      crowded = λ _. rw leaves-are-three (lt-ltb 4096 (0 + suc (suc (length (leavesBehind s (atField 2) (drop 8 (take e t)))))) (omega (arith, g .crowded h)));
+      too-many = λ _. rw leaves-are-three (lt-ltb 4096 (0 + suc (suc (length (leavesBehind s (atField 2) (drop 8 (take e t)))))) (omega (arith, g .too-many h)));
       most = omega arith;
     }
 
@@ -248,6 +248,6 @@ module _ (s : Separators) (t : Text) (e : ℕ) (long : 8 ≤ e) (inside : e ≤ 
         before = λ i j a b. absurd (omega arith);
       };
       few = g .few;
-      crowded = λ x. absurd (omega arith);
+      too-many = λ x. absurd (omega arith);
       most = omega arith;
     }

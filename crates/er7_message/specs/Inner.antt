@@ -75,7 +75,7 @@ pub record SegmentFits (s : Separators) (t l : Text) (k n : ℕ) (segs cells seg
 pub record SegmentRead (s : Separators) (t l : Text) (e k n : ℕ) (segs cells segs′ cells′ : List ℕ) (r : ℕ) : Type 0 where
   pub fitted : r ≤ 4096 → SegmentFits s t l k n segs cells segs′ cells′ r
   pub few : r ≤ 4096 → r ≤ e
-  pub crowded : 4096 < r → leb 256 k || ltb 4096 (n + length (leavesOf s (eqb k 0) l)) ≡ true
+  pub too-many : 4096 < r → leb 256 k || ltb 4096 (n + length (leavesOf s (eqb k 0) l)) ≡ true
   pub most : r ≤ 4097
 
 -- ---- the segments before the lines ls stand in k rows, with n leaves

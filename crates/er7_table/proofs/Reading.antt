@@ -177,7 +177,7 @@ module _ {s : Separators} {t : Text} {from : ℕ} {p₀ : Place} {n₀ : ℕ} {c
   going-full e = record {
     fitted = λ h. absurd (omega (arith, h));
     few = λ h. absurd (omega (arith, h));
-    crowded = λ _. rw (go .whole, length-append, list-length) (omega (arith, leaves-some s (drop i t) [] p, go .low));
+    too-many = λ _. rw (go .whole, length-append, list-length) (omega (arith, leaves-some s (drop i t) [] p, go .low));
     most = omega arith;
     before = go .before;
   }
@@ -224,7 +224,7 @@ module _ {s : Separators} {t : Text} {from : ℕ} {p₀ : Place} {n₀ : ℕ} {c
             within = within-rows;
           };
           few = λ _. omega (arith, go .ahead, go .inside);
-          crowded = λ h. absurd (omega arith);
+          too-many = λ h. absurd (omega arith);
           most = omega arith;
           before = before-more;
         }
@@ -260,7 +260,7 @@ read-front {xs} {t} {e} {n} {cells} {cells′} {r} l g =
             within = λ i a b. within-more (placeAt cells′ i) (length (take e t)) (length t) (omega (arith, len)) (w .within i a b);
           };
       few = λ f. omega (arith, g .few f, len);
-      crowded = g .crowded;
+      too-many = g .too-many;
       most = g .most;
       before = g .before;
     }

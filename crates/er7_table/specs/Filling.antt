@@ -50,6 +50,6 @@ pub record LeafRoom (cells : List ℕ) (m : ℕ) : Type 0 where
 pub record LeavesRead (xs : List Leaf) (t : Text) (e n : ℕ) (cells cells′ : List ℕ) (r : ℕ) : Type 0 where
   pub fitted : r ≤ 4096 → Filled xs t n cells′ r
   pub few : r ≤ 4096 → r ≤ e
-  pub crowded : 4096 < r → 4096 < n + length xs
+  pub too-many : 4096 < r → 4096 < n + length xs
   pub most : r ≤ 4097
   pub before : (i k : ℕ) → k < 8 → i < n → cell cells′ i k ≡ cell cells i k

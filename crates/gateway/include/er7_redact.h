@@ -16,7 +16,7 @@
  *               from 1, for the policy's numbers 6 to 9, else 0
  * No text ends in a NUL of its own; an output that the text fills has no zero behind it.
  *
- * Limits. Output and scratch have at least ER7_BENCH bytes each; more is fine. The report may have any length, 0 included.
+ * Limits. Output and scratch have at least ER7_BUFFER_MIN bytes each; more is fine. The report may have any length, 0 included.
  * A message, payload or policy has at most ER7_INPUT_MAX bytes, which are 0x09, 0x20 to 0x7E, and: CR in a message; LF, or CR directly
  * before LF, in a policy; CR and LF in a payload.
  *
@@ -42,8 +42,8 @@
 extern "C" {
 #endif
 
-#define ER7_BENCH 49152     /* the least length of output and of scratch */
-#define ER7_INPUT_MAX 32768 /* the greatest length of a message, a payload or a policy */
+#define ER7_BUFFER_MIN 49152 /* the least length of output and of scratch */
+#define ER7_INPUT_MAX 32768  /* the greatest length of a message, a payload or a policy */
 
 #define ER7_STACK 131072        /* bytes of stack that suffice for er7_print, er7_append, er7_builtin and er7_payload */
 #define ER7_REDACT_STACK 1048576 /* bytes of stack that suffice for er7_redact */
@@ -51,20 +51,20 @@ extern "C" {
 /* What a call returns. */
 enum er7_number {
     ER7_DONE = 0,              /* success */
-    ER7_SHORT_BUFFER = 1,      /* short bench: output or scratch below ER7_BENCH bytes */
-    ER7_TOO_LONG = 2,          /* long: message, payload or policy above ER7_INPUT_MAX bytes */
-    ER7_FOREIGN_BYTE = 3,      /* foreign: a byte that may not stand there */
-    ER7_BAD_HEADER = 4,        /* headless: no bytes, or the message does not open with MSH and five delimiters */
-    ER7_BAD_SEGMENT = 5,       /* bad segment: empty, wrongly named, or a second MSH, any FHS, BHS */
-    ER7_TOO_MANY = 6,          /* crowded: over 256 segments, 4,096 leaves, 128 rules; line over 255 bytes, word over 64, rest over 80 */
-    ER7_BAD_ACTION = 7,        /* bad action: missing or unreadable, in a rule or directive */
-    ER7_BAD_PATH = 8,          /* bad path: unreadable */
-    ER7_BAD_DIRECTIVE = 9,     /* bad directive: wrong argument or none, or the first word is * */
-    ER7_TOO_MUCH_LEARNT = 10,  /* learnt full: known-values on, and a 513th value or over 16,384 bytes of them */
-    ER7_MESSAGE_TOO_LONG = 11, /* swollen: a change leaves the message over ER7_BENCH bytes */
-    ER7_REPORT_TOO_LONG = 12,  /* report full: the report is longer than its buffer */
-    ER7_WITHHELD = 13,         /* withheld: a payload under `unrecognised refuse` */
-    ER7_NO_SUCH_BUILTIN = 14   /* no such built-in: number above 3 */
+    ER7_SHORT_BUFFER = 1,      /* output or scratch below ER7_BUFFER_MIN bytes */
+    ER7_TOO_LONG = 2,          /* message, payload or policy above ER7_INPUT_MAX bytes */
+    ER7_FOREIGN_BYTE = 3,      /* a byte that may not stand there */
+    ER7_BAD_HEADER = 4,        /* no bytes, or the message does not open with MSH and five delimiters */
+    ER7_BAD_SEGMENT = 5,       /* empty, wrongly named, or a second MSH, any FHS, BHS */
+    ER7_TOO_MANY = 6,          /* over 256 segments, 4,096 leaves, 128 rules; line over 255 bytes, word over 64, rest over 80 */
+    ER7_BAD_ACTION = 7,        /* missing or unreadable, in a rule or directive */
+    ER7_BAD_PATH = 8,          /* unreadable */
+    ER7_BAD_DIRECTIVE = 9,     /* wrong argument or none, or the first word is * */
+    ER7_TOO_MUCH_LEARNT = 10,  /* known-values on, and a 513th value or over 16,384 bytes of them */
+    ER7_MESSAGE_TOO_LONG = 11, /* a change leaves the message over ER7_BUFFER_MIN bytes */
+    ER7_REPORT_TOO_LONG = 12,  /* the report is longer than its buffer */
+    ER7_WITHHELD = 13,         /* a payload under `unrecognised refuse` */
+    ER7_NO_SUCH_BUILTIN = 14   /* number above 3 */
 };
 
 /*

@@ -2,7 +2,7 @@ use Rattle.er7_message.proofs.message.read_header.Statement.{statement}
 use Rattle.er7_message.proofs.message.read_header.Tie as tie
 use borrow.Author.Needs.{needs}
 use native.Mathlib.Omega.{arith}
-use Rattle.er7_message.proofs.Segments.{put-at, header-crowded, header-fits}
+use Rattle.er7_message.proofs.Segments.{put-at, header-too-many, header-fits}
 use Rattle.er7_message.proofs.Reading.{room-kept}
 
 at-field-requires : tie.Need-at-field-requires
@@ -24,7 +24,7 @@ same-length : tie.Need-same-length
 same-length c = search needs
 
 returns : tie.Need-returns
-returns c = header-crowded _ _ _ (c .before .before .before .before .before .before .before .before .before .before .before .before .before .before .before .before .before .before .pre .0) (c .before .before .before .before .before .before .before .before .before .before .before .before .before .before .before .before .before .before .pre .1) (c .before .before .before .before .before .before .before .before .before .before .before .before .before .before .before .before .before .before .pre .2) (c .before .before .before .before .before .before .before .before .before .before .before .before .before .before .before .before .before .before .pre .3) (put-at 1 (c .before .before .before .before .before .before .before .before .before .before .before .before .before .at-field .ensures) (c .before .before .before .before .before .before .before .before .before .before .before .before .put-leaf .ensures)) (put-at 2 (c .before .before .before .before .before .before .before .before .at-field2 .ensures) (c .before .before .before .before .before .before .before .put-leaf2 .ensures)) (c .before .before .before .read-behind .ensures) _ _ (omega arith)
+returns c = header-too-many _ _ _ (c .before .before .before .before .before .before .before .before .before .before .before .before .before .before .before .before .before .before .pre .0) (c .before .before .before .before .before .before .before .before .before .before .before .before .before .before .before .before .before .before .pre .1) (c .before .before .before .before .before .before .before .before .before .before .before .before .before .before .before .before .before .before .pre .2) (c .before .before .before .before .before .before .before .before .before .before .before .before .before .before .before .before .before .before .pre .3) (put-at 1 (c .before .before .before .before .before .before .before .before .before .before .before .before .before .at-field .ensures) (c .before .before .before .before .before .before .before .before .before .before .before .before .put-leaf .ensures)) (put-at 2 (c .before .before .before .before .before .before .before .before .at-field2 .ensures) (c .before .before .before .before .before .before .before .put-leaf2 .ensures)) (c .before .before .before .read-behind .ensures) _ _ (omega arith)
 
 put-segment-requires : tie.Need-put-segment-requires
 put-segment-requires c κs = search needs

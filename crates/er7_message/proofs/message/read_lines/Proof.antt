@@ -2,7 +2,7 @@ use Rattle.er7_message.proofs.message.read_lines.Statement.{statement}
 use Rattle.er7_message.proofs.message.read_lines.Tie as tie
 use borrow.Author.Needs.{needs}
 use native.Mathlib.Omega.{arith}
-use Rattle.er7_message.proofs.Reading.{header-crowded, header-on, header-done}
+use Rattle.er7_message.proofs.Reading.{header-too-many, header-on, header-done}
 use Rattle.er7_message.proofs.Reading.{room-kept}
 
 read-header-requires : tie.Need-read-header-requires
@@ -15,7 +15,7 @@ same-length-2 : tie.Need-same-length-2
 same-length-2 c = search needs
 
 returns : tie.Need-returns
-returns c = header-crowded (c .before .before .before .before .before .before .before .before .before .before .before .pre .0 .end) (c .before .before .before .before .before .read-header .ensures) (c .before .before .before .before .before .before .before .before .before .before .before .pre .1) (c .before .before .before .before .before .before .before .before .before .before .before .pre .2) (omega arith) _ _ _
+returns c = header-too-many (c .before .before .before .before .before .before .before .before .before .before .before .pre .0 .end) (c .before .before .before .before .before .read-header .ensures) (c .before .before .before .before .before .before .before .before .before .before .before .pre .1) (c .before .before .before .before .before .before .before .before .before .before .before .pre .2) (omega arith) _ _ _
 
 same-length-3 : tie.Need-same-length-3
 same-length-3 c = search needs

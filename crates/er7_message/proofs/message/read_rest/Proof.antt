@@ -11,7 +11,7 @@ use Rattle.text.specs.Text.{part}
 use Rattle.message_model.specs.Message.{segmentLines}
 use Rattle.er7_message.specs.Inner.{line, Reading}
 use Rattle.er7_message.proofs.Segments.{named-long}
-use Rattle.er7_message.proofs.Reading.{judged, line-bad, line-crowded, line-on, line-done}
+use Rattle.er7_message.proofs.Reading.{judged, line-bad, line-too-many, line-on, line-done}
 use Rattle.er7_message.proofs.Reading.{room-kept}
 
 abbrev Inv-loop : tie.InvT-loop
@@ -61,7 +61,7 @@ same-length-4 c = search needs
 
 returns-2 : tie.Need-returns-2 Inv-loop μ-loop
 unfolding line part
-returns-2 c = line-crowded (c .before .before .before .before .before .before .before .before .before .before .before .before .loop .inv .2) (c .before .before .before .before .before .before .before .before .before .before .before .line-end .ensures) (judged _ (c .before .before .before .before .before .before .before .before .before .before .before .before .loop .inv .1) _ (c .before .before .before .before .before .before .before .before .before .is-named .ensures) (not-false _ (c .before .before .before .before .before .before .before .before .if1 .left))) (c .before .before .before .before .before .read-segment .ensures) (omega (arith, c .if2 .taken)) _ _ _
+returns-2 c = line-too-many (c .before .before .before .before .before .before .before .before .before .before .before .before .loop .inv .2) (c .before .before .before .before .before .before .before .before .before .before .before .line-end .ensures) (judged _ (c .before .before .before .before .before .before .before .before .before .before .before .before .loop .inv .1) _ (c .before .before .before .before .before .before .before .before .before .is-named .ensures) (not-false _ (c .before .before .before .before .before .before .before .before .if1 .left))) (c .before .before .before .before .before .read-segment .ensures) (omega (arith, c .if2 .taken)) _ _ _
 
 add-k : tie.Need-add-k Inv-loop μ-loop
 add-k c = search needs

@@ -3,7 +3,7 @@ use Rattle.er7_message.proofs.message.read_segment.Tie as tie
 use borrow.Author.Needs.{needs}
 use Prim.Native.Nat.{_+_}
 use native.Mathlib.Omega.{arith}
-use Rattle.er7_message.proofs.Segments.{segment-257, segment-crowded, segment-fits}
+use Rattle.er7_message.proofs.Segments.{segment-257, segment-too-many, segment-fits}
 
 returns : tie.Need-returns
 returns c = segment-257 _ _ _ _ _ _ _ _ _ _ (c .if1 .taken)
@@ -18,7 +18,7 @@ same-length : tie.Need-same-length
 same-length c = search needs
 
 returns-2 : tie.Need-returns-2
-returns-2 c = segment-crowded _ _ _ _ _ _ _ _ (omega arith) (c .before .before .before .read-behind .ensures) _ (omega arith)
+returns-2 c = segment-too-many _ _ _ _ _ _ _ _ (omega arith) (c .before .before .before .read-behind .ensures) _ (omega arith)
 
 shared-slice-read-a : tie.Need-shared-slice-read-a
 shared-slice-read-a c = search needs
