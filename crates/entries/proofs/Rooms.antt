@@ -9,7 +9,7 @@ use Rattle.text.specs.Number.{eightBytes}
 use Rattle.text.proofs.Spelling.{hexadecimal-length}
 use Rattle.er7_redact.specs.Action as A
 use Rattle.er7_redact.specs.Action.{Action, keep, clear, null, pseudonym, replace, mask, first, last, printAction, asAction, room}
-use Rattle.er7_redact.specs.Pseudonym as P
+use Rattle.pseudonym.specs.Pseudonym as P
 use Rattle.er7_redact.specs.Policy.{reject, asRule, asPosture}
 use Rattle.er7_redact.specs.declared.action.Action.{Action as HeldAction}
 use Rattle.er7_redact.specs.declared.policy.Rule.{Rule as HeldRule}

@@ -17,7 +17,7 @@ use Rattle.text.proofs.Spelling.{hexadecimal-length}
 use Rattle.er7_redact.specs.declared.action.Count.{Count}
 use Rattle.er7_redact.specs.declared.action.Count.the-variants.{Of, BadCount}
 use Rattle.er7_redact.specs.declared.action.Verb.{Verb}
-use Rattle.er7_redact.specs.Pseudonym as P
+use Rattle.pseudonym.specs.Pseudonym as P
 use Rattle.er7_redact.specs.declared.action.Applied.{Applied}
 use Rattle.er7_redact.specs.declared.action.Applied.the-variants.{Written, Nothing}
 use Rattle.er7_redact.specs.declared.action.Action.{Action as HeldAction}

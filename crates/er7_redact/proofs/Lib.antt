@@ -1,4 +1,2 @@
-pub mod Products
-pub mod Hashes
 pub mod Actions
 pub mod ActionReadBack

@@ -8,7 +8,7 @@ use lib.Dec.{eqb}
 use lib.ListN.{length, take, drop, replicate}
 use Rattle.text.specs.Text.{Text, bytes, isBlank, notBlank, isWord, run, rest, part, put}
 use Rattle.text.specs.Number.{decimal, Taken, taken, refused, takeNumber}
-use Rattle.er7_redact.specs.Pseudonym as P
+use Rattle.pseudonym.specs.Pseudonym as P
 use Rattle.er7_redact.specs.declared.action.Verb.{Verb}
 use Rattle.er7_redact.specs.declared.action.Verb.the-variants as Verbs
 use Rattle.er7_redact.specs.declared.action.Action.{Action as HeldAction}

@@ -1,4 +1,3 @@
-pub mod Pseudonym
 pub mod Action
 pub mod Policy
 pub mod Inner

@@ -1,5 +1,5 @@
 // Actions: what redaction does to a value.
-use super::pseudonym::pseudonym;
+use pseudonym::pseudonym;
 use text::bytes::Class;
 use text::bytes::byte_at;
 use text::bytes::copy_at;

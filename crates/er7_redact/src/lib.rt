@@ -1,4 +1,3 @@
-// Redaction of HL7 v2 messages: pseudonyms, actions, rules.
+// Redaction of HL7 v2 messages: actions and rules.
 pub mod action;
 pub mod policy;
-pub mod pseudonym;

@@ -8,7 +8,7 @@ use lib.Dec.{eqb}
 use lib.ListN.{length, drop, replicate}
 use Rattle.text.specs.Text.{Text, bytes, same, all, begins}
 use Rattle.er7.specs.Path.{Path, readPath, printPath}
-use Rattle.er7_redact.specs.Pseudonym.{OFFSET, fold}
+use Rattle.pseudonym.specs.Pseudonym.{OFFSET, fold}
 use Rattle.er7_redact.specs.Action.{Action, first, last, readAction, printAction, apply}
 use Rattle.er7.specs.declared.separators.Separators.{Separators}
 use Rattle.refusal.specs.declared.Refusal.{Refusal}

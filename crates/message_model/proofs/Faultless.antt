@@ -37,7 +37,7 @@ pub record HeaderLine (l : Text) : Type 0 where
   pub delimit : mayDelimitAll (getD l 3 0 ∷ getD l 4 0 ∷ getD l 5 0 ∷ getD l 6 0 ∷ getD l 7 0 ∷ []) ≡ true
   pub behind : eqb (length l) 8 || eqb (getD l 8 0) (getD l 3 0) ≡ true
 
-five-bytes : (l : Text) → 8 ≤ length l → drop 3 l ≡ getD l 3 0 ∷ getD l 4 0 ∷ getD l 5 0 ∷ getD l 6 0 ∷ getD l 7 0 ∷ drop 8 l
+pub five-bytes : (l : Text) → 8 ≤ length l → drop 3 l ≡ getD l 3 0 ∷ getD l 4 0 ∷ getD l 5 0 ∷ getD l 6 0 ∷ getD l 7 0 ∷ drop 8 l
 five-bytes l h =
     drop-cons l 3 0 (omega arith) ∙ ap (λ (z : Text). getD l 3 0 ∷ z)
     (drop-cons l 4 0 (omega arith) ∙ ap (λ (z : Text). getD l 4 0 ∷ z)

@@ -82,12 +82,12 @@ module _ (s : Separators) where
   behind-chains [] p = tt
   behind-chains (x ∷ t) p = leaves-chain t [] (stepOf s x) p (next s x p) (next-step s x p)
 
-  line-chains : (b : Bool) (l : Text) → Chain (atField 0) (leavesOf s b l)
+  pub line-chains : (b : Bool) (l : Text) → Chain (atField 0) (leavesOf s b l)
   unfolding leavesOf
   line-chains true l = ((a-field, unfold atField in refl), ((a-field, unfold atField in refl), behind-chains (drop 8 l) (atField 2)))
   line-chains false l = behind-chains (drop 3 l) (atField 0)
 
-  segments-chain : (seen ls : List Text) → Chained (segments s seen ls)
+  pub segments-chain : (seen ls : List Text) → Chained (segments s seen ls)
   unfolding segments
   segments-chain seen [] = tt
   segments-chain seen (l ∷ ls) = (line-chains (eqb (length seen) 0) l, segments-chain (seen ++ take 3 l ∷ []) ls)

@@ -16,7 +16,7 @@ use Rattle.er7.specs.declared.message.Place.{Place}
 use Rattle.er7.specs.declared.separators.Separators.{Separators}
 use Rattle.message_model.specs.Message.{Leaf, leaf, Label, segment, separatorsOf, isHeader, endsInCR, withoutLastCR, segmentLines, endsLeaf, next, leaves, leavesBehind, atField, leavesOf, isNamed, count, segments, messageOf, segmentsFault, messageFault, touchable, delimiter, lead, printLeaves, printSegments, printMessage}
 use Rattle.message_model.proofs.Places.{Step, a-field, a-repetition, a-component, a-subcomponent, nextStep, Positive, positive-field, positive-next, stepOf, next-step, delimiter-next}
-use Rattle.message_model.proofs.Faultless.{header-line, named-line, faultless-lines, Lines, lines, faultless, separators-are, segments-are, last-is}
+use Rattle.message_model.proofs.Faultless.{five-bytes, header-line, named-line, faultless-lines, Lines, lines, faultless, separators-are, segments-are, last-is}
 
 -- ---- leaves
 
@@ -85,7 +85,7 @@ behind f n l h e = go (eqb (length l) n) refl e
         let ne : length l ≡ n → ⊥ = eqb-false (length l) n q in
         inr (drop (suc n) l, drop-cons l n 0 (omega arith) ∙ ap (λ (z : ℕ). z ∷ drop (suc n) l) (eqb-true _ _ e))
 
-named-prints : (s : Separators) (g : Label) (l : Text) → g .header ≡ false → isNamed s l ≡ true
+pub named-prints : (s : Separators) (g : Label) (l : Text) → g .header ≡ false → isNamed s l ≡ true
     → take 3 l ++ printLeaves s g (leavesOf s false l) ≡ l
 unfolding leavesOf
 named-prints s g l hd e =
@@ -99,19 +99,19 @@ third : (s : Separators) (g : Label) → Delimited g (next s (s .field) (atField
 unfolding next atField
 third s g = rw (eq-eqb (s .field) (s .field) refl) (record { positive = positive-field 3; past = λ e. omega arith })
 
-header-prints : (s : Separators) (nm l : Text) (k : ℕ) → isHeader l ≡ true → s ≡ separatorsOf l
+-- any opener: MSH, FHS, BHS
+pub opener-prints : (s : Separators) (nm l : Text) (k : ℕ) → 8 ≤ length l → eqb (length l) 8 || eqb (getD l 8 0) (getD l 3 0) ≡ true → s ≡ separatorsOf l
     → take 3 l ++ printLeaves s (record { name = nm; occurrence = k; header = true }) (leavesOf s true l) ≡ l
 unfolding leavesOf atField separatorsOf printLeaves lead touchable
-header-prints s nm l k e q =
+opener-prints s nm l k long e q =
     let g : Label = record { name = nm; occurrence = k; header = true } in
-    let f = header-line l e in
-    rw (behind-prints s g (drop 8 l) (atField 2) (third s g) (positive-field 2) (behind (s .field) 8 l (f .long) (rw q (f .behind))))
-    (rw q (ap (λ (z : Text). take 3 l ++ z) (sym (f .five)) ∙ take-append-drop 3 l))
+    rw (behind-prints s g (drop 8 l) (atField 2) (third s g) (positive-field 2) (behind (s .field) 8 l long (rw q e)))
+    (rw q (ap (λ (z : Text). take 3 l ++ z) (sym (five-bytes l long)) ∙ take-append-drop 3 l))
 
 -- ---- lines
 
 -- lines, each with its CR, the last with one or none
-abbrev joined : Bool → List Text → Text
+abbrev pub joined : Bool → List Text → Text
 joined cr [] = []
 joined cr (l ∷ []) = l ++ cond cr (0x0d ∷ []) []
 joined cr (l ∷ m ∷ ls) = l ++ 0x0d ∷ joined cr (m ∷ ls)
@@ -120,7 +120,7 @@ joined-more : (cr : Bool) (w : Text) (ls : List Text) → Lines ls → joined cr
 joined-more cr w [] h = let e = h .are in let z : _≡_ {A = ℕ} 0 1 = cc e in absurd (omega arith)
 joined-more cr w (l ∷ ls) h = refl
 
-lines-join : (cr : Bool) (w t : Text) → joined cr (segmentLines w t) ≡ (w ++ t) ++ cond cr (0x0d ∷ []) []
+pub lines-join : (cr : Bool) (w t : Text) → joined cr (segmentLines w t) ≡ (w ++ t) ++ cond cr (0x0d ∷ []) []
 unfolding segmentLines
 lines-join cr w [] = rw append-nil
 lines-join cr w (x ∷ t) = go (eqb x 0x0d) refl (lines-join cr [] t) (lines-join cr (w ++ x ∷ []) t)
@@ -131,7 +131,7 @@ lines-join cr w (x ∷ t) = go (eqb x 0x0d) refl (lines-join cr [] t) (lines-joi
     go true e ih ih2 = joined-more cr w (segmentLines [] t) (lines [] t) ∙ rw (ih, eqb-true x 0x0d e, append-assoc)
     go false e ih ih2 = ih2 ∙ rw (append-snoc w x t)
 
-last-back : (t : Text) → withoutLastCR t ++ cond (endsInCR t) (0x0d ∷ []) [] ≡ t
+pub last-back : (t : Text) → withoutLastCR t ++ cond (endsInCR t) (0x0d ∷ []) [] ≡ t
 unfolding withoutLastCR endsInCR
 last-back t = go (eqb (getD t (length t - 1) 0) 0x0d) refl
   where
@@ -153,13 +153,13 @@ front a b c l e = sym (append-assoc a b c) ∙ ap (λ (z : Text). z ++ c) e
 
 module _ (s : Separators) (cr : Bool) where
   -- one segment in front of the others
-  one-prints : (l : Text) (g : Label) (xs : List Leaf) (ls seen : List Text) → g .name ++ printLeaves s g xs ≡ l
+  pub one-prints : (l : Text) (g : Label) (xs : List Leaf) (ls seen : List Text) → g .name ++ printLeaves s g xs ≡ l
       → printSegments s cr (segments s seen ls) ≡ joined cr ls → printSegments s cr (segment g xs ∷ segments s seen ls) ≡ joined cr (l ∷ ls)
   unfolding segments printSegments
   one-prints l g xs [] seen e ih = front (g .name) (printLeaves s g xs) _ l e
   one-prints l g xs (m ∷ ls) seen e ih = rw ih (front (g .name) (printLeaves s g xs) _ l e)
 
-  others-print : (ls seen : List Text) (k n : ℕ) → k ≡ length seen → 1 ≤ k → segmentsFault s k n ls ≡ none
+  pub others-print : (ls seen : List Text) (k n : ℕ) → 1 ≤ length seen → 1 ≤ k → segmentsFault s k n ls ≡ none
       → printSegments s cr (segments s seen ls) ≡ joined cr ls
   unfolding segments printSegments
   others-print [] seen k n q h e = refl
@@ -174,8 +174,8 @@ module _ (s : Separators) (cr : Bool) where
       → printSegments s cr (segments s [] (l ∷ ls)) ≡ joined cr (l ∷ ls)
   unfolding segments count
   all-print l ls h q e =
-      one-prints l _ _ ls _ (header-prints s (take 3 l) l 1 h q)
-      (others-print ls (take 3 l ∷ []) 1 _ refl (omega arith) (faultless-lines s 0 0 l ls e .others))
+      one-prints l _ _ ls _ (opener-prints s (take 3 l) l 1 (header-line l h .long) (header-line l h .behind) q)
+      (others-print ls (take 3 l ∷ []) 1 _ (omega arith) (omega arith) (faultless-lines s 0 0 l ls e .others))
 
 pub message-prints : (t : Text) → messageFault t ≡ none → printMessage (messageOf t) ≡ t
 unfolding printMessage

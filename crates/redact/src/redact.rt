@@ -35,7 +35,7 @@ fn hand_back(
     counts: Counts,
     segs: &[usize],
     cells: &[usize],
-    store: &[u8],
+    store: &[u8; 147456],
     c: Counters,
     output: &mut [u8],
     report: &mut [u8],
@@ -68,6 +68,8 @@ fn redact_read(
     ensures { λ r. ⌜ asOutcome r (now (output .exit)) (now (report .exit)) (now (scratch .exit)) ≡ outcome (lent (length (now (output .entry))) (length (now (report .entry))) (length (now (scratch .entry)))) (reported (lent (length (now (output .entry))) (length (now (report .entry))) (length (now (scratch .entry)))) (Redact.redact key (asPolicy (now (text .entry)) policy) (messageOf (now (message .entry))))) ⌝ }
 {
     let mut store = [0u8; 147456];
+    let mut value = [0u8; 49152];
+    let mut new = [0u8; 49152];
     let mut bytes = [0u8; 16384];
     let mut known = [0usize; 4096];
     match run_all(
@@ -80,8 +82,8 @@ fn redact_read(
         cells,
         &mut store,
         report,
-        output,
-        scratch,
+        &mut value,
+        &mut new,
         &mut bytes,
         &mut known,
     ) {

@@ -10,7 +10,6 @@ use lib.Dec.{ltb}
 use lib.Seq.{take-at}
 use Rattle.text.specs.Text.{Text, same, put, Wrote}
 use Rattle.text.proofs.Laws.{by-cond}
-use Rattle.text.proofs.Writes.{wrote-length}
 use Rattle.er7.specs.declared.separators.Separators.{Separators}
 use Rattle.er7_redact.specs.declared.action.Applied.{Applied}
 use Rattle.er7_redact.specs.declared.action.Applied.the-variants.{Written, Nothing}
@@ -33,20 +32,20 @@ apart e = absurd (omega arith)
 
 pub acted-stays : {f : Fate} (len size : ℕ) (d : Text) (used : ℕ) → f ≡ stays → Acted f len size d used d Stays
 unfolding answered stored
-acted-stays len size d used e = record { result = rw e; store = rw e; long = refl }
+acted-stays len size d used e = record { result = rw e; store = rw e; fits = λ n q. apart cc }
 
 module _ (w : Text) (len size : ℕ) (d : Text) (used : ℕ) {n : ℕ} (e : n ≡ length w) where
   pub acted-over : 49152 < size - len + n → Acted (becomes w) len size d used d TooLong
   unfolding answered stored
   acted-over h =
       let t = lt-ltb 49152 (size - len + length w) (omega arith) in
-      record { result = rw t; store = rw t; long = refl }
+      record { result = rw t; store = rw t; fits = λ n q. apart cc }
 
   pub acted-becomes : {d′ : Text} {r : ℕ} → size - len + n ≤ 49152 → Wrote d used w d′ r → Acted (becomes w) len size d used d′ (Becomes n)
   unfolding answered stored
   acted-becomes h g =
       let t = le-ltb 49152 (size - len + length w) (omega arith) in
-      record { result = rw (t, e); store = rw t (g .text); long = wrote-length g }
+      record { result = rw (t, e); store = rw t (g .text); fits = λ m q. let i : n ≡ m = cc in omega (arith, i, e, g .end, g .high) }
 
 -- ---- a value in the place of another
 
@@ -166,18 +165,18 @@ module _ {len size : ℕ} {d : Text} {used : ℕ} {d′ : Text} where
       by-answer true e = apart cc
       by-answer false e = apart cc
 
-  pub became : (f : Fate) {n : ℕ} → len ≤ size → used + 49152 ≤ length d → Acted f len size d used d′ (Becomes n) → Became f len size d used d′ n
+  pub became : (f : Fate) {n : ℕ} → len ≤ size → Acted f len size d used d′ (Becomes n) → Became f len size d used d′ n
   unfolding answered stored
-  became stays l r g = apart cc
-  became vanishes l r g = apart cc
-  became (becomes w) {n} l r g = by-answer (ltb 49152 (size - len + length w)) refl (g .result) (g .store)
+  became stays l g = apart cc
+  became vanishes l g = apart cc
+  became (becomes w) {n} l g = by-answer (ltb 49152 (size - len + length w)) refl (g .result) (g .store)
     where
       by-answer : (b : Bool) → ltb 49152 (size - len + length w) ≡ b → Becomes n ≡ cond b TooLong (Becomes (length w)) → d′ ≡ cond b d (put d used w) → Became (becomes w) len size d used d′ n
       by-answer true q e f = apart cc
       by-answer false q e f =
           let y : n ≡ length w = cc in
           let m = ltb-false 49152 (size - len + length w) q in
-          record { text = w; is = refl; long = y; few = omega arith; wrote = record { end = omega arith; high = omega arith; text = f } }
+          record { text = w; is = refl; long = y; few = omega arith; wrote = record { end = omega arith; high = g .fits n refl; text = f } }
 
   pub overran : (f : Fate) → Acted f len size d used d′ TooLong → Overran f len size
   unfolding answered

@@ -33,10 +33,10 @@ module _ (t b : Text) (k : List ℕ) where
   known-length i zero = refl
   known-length i (suc n) = ap suc (known-length (i + 1) n)
 
-pub good-slots : {b : Text} {k : List ℕ} {n used : ℕ} → GoodKnown b k n used → Slots b k n
+pub good-slots : {b : Text} {k : List ℕ} {n used : ℕ} → GoodKnown b k n used → Slots k n
 good-slots {b} {k} {n} g = record {
   few = g .few;
-  slot = λ i h. record { row = omega (arith, g .few, g .long); inside = omega (arith, g .slots i h, g .within, g .wide) };
+  slot = λ i h. record { row = omega (arith, g .few); inside = omega (arith, g .slots i h, g .within) };
 }
 
 pub word-of-part : (b : Text) (i n : ℕ) (v : Text) {r : Bool} → r ≡ isWholeWord (take (i + n - i) (drop i b)) v → r ≡ isWholeWord (part b i n) v

@@ -13,7 +13,6 @@ use mathlib.Core.List.{append-assoc}
 use Rattle.text.specs.Text.{Text, lower, part, put, Wrote}
 use Rattle.text.proofs.Laws.{split}
 use Rattle.text.proofs.Words.{lower-length}
-use Rattle.text.proofs.Writes.{wrote-length}
 use Rattle.er7.specs.declared.separators.Separators.{Separators}
 use Rattle.er7_redact.specs.declared.action.Action.{Action as HeldAction}
 use Rattle.er7_redact.specs.Action.{asAction, ActionHeld, isKeep}
@@ -117,12 +116,10 @@ module _ {v b b′ : Text} {k k′ : List ℕ} {n used e : ℕ} {a : HeldAction}
       let q : n + 1 ≡ suc n = omega arith in
       rw q (known-snoc t b′ k′ 0 n ∙ ap₂ (λ (ks : List Known) (x : Known). ks ++ (x ∷ [])) (known-ext t b′ b k′ k 0 n (λ j l. known-kept t j (omega arith))) (known-new t))
 
-  more-good : n < 512 → e ≤ 16384 → length k′ ≡ length k → GoodKnown b′ k′ (n + 1) e
-  more-good l r q = record {
+  more-good : n < 512 → e ≤ 16384 → GoodKnown b′ k′ (n + 1) e
+  more-good l r = record {
     few = omega arith;
-    long = omega (arith, g .long);
     within = r;
-    wide = omega (arith, g .wide, wrote-length w);
     slots = λ i h. split i n
         (λ o. rw (p .kept (i * 8 + 1) (omega arith), p .kept (i * 8 + 2) (omega arith)) (omega (arith, g .slots i o, w .end)))
         (λ o. let z : i ≡ n = omega arith in rw (z, p .starts, p .lasts) (omega (arith, w .end)));
@@ -136,8 +133,8 @@ module _ {v b b′ : Text} {k k′ : List ℕ} {n used e : ℕ} {a : HeldAction}
         (λ o. let z : i ≡ n = omega arith in rw (z, p .acts) h);
   }
 
-  more-fits : (leb 512 n || ltb 16384 (used + length v)) ≡ false → length k′ ≡ length k → GoodKnown b′ k′ (n + 1) (used + length v)
-  more-fits q l = rw (← w .end) (more-good (not-many n (used + length v) q) (omega (arith, w .end, not-much n (used + length v) q)) l)
+  more-fits : (leb 512 n || ltb 16384 (used + length v)) ≡ false → GoodKnown b′ k′ (n + 1) (used + length v)
+  more-fits q = rw (← w .end) (more-good (not-many n (used + length v) q) (omega (arith, w .end, not-much n (used + length v) q)))
 
 -- ---- booking
 
@@ -164,11 +161,11 @@ module _ (v : Text) (a : HeldAction) {b : Text} {k : List ℕ} {n used : ℕ} (g
       held = λ t h fs m u e. apart cc;
     }
 
-    pub learns-more : {b′ : Text} {k′ : List ℕ} {r : ℕ} → (leb 512 n || ltb 16384 (used + length v)) ≡ false → length k′ ≡ length k → Wrote b used v b′ r
+    pub learns-more : {b′ : Text} {k′ : List ℕ} {r : ℕ} → (leb 512 n || ltb 16384 (used + length v)) ≡ false → Wrote b used v b′ r
         → RowPut k n used (length v) a k′ → Learns (learnValue v a) a b k n b′ k′ (Kept (n + 1) (used + length v))
     unfolding learnValue bookAll booked bookOf
-    learns-more q l w p =
-        let x = more-fits g w p q l in record {
+    learns-more q w p =
+        let x = more-fits g w p q in record {
           book = λ t ρs z. rw (f t, test-is v t g, q, list-more g w p t);
           good = λ m u e. let i : n + 1 ≡ m = cc in let j : used + length v ≡ u = cc in rw (← i, ← j) x;
           held = λ t h fs m u e. let i : n + 1 ≡ m = cc in rw (← i) (more-held g w p t h fs);

@@ -28,15 +28,15 @@ stored (becomes w) len size d used = cond (ltb 49152 (size - len + length w)) d 
 pub record Acted (f : Fate) (len size : ℕ) (d : Text) (used : ℕ) (d′ : Text) (r : HeldFate) : Type 0 where
   pub result : r ≡ answered f len size
   pub store : d′ ≡ stored f len size d used
-  pub long : length d′ ≡ length d
+  pub fits : (n : ℕ) → r ≡ Becomes n → used + n ≤ length d
 
 -- what the action a writes in a value's place is no longer than a message may be
 pub record Short (key : ℕ) (text : Text) (a : HeldAction) : Type 0 where
   pub most : (v : Text) → length v ≤ 49152 → room (apply key (asAction text a) v) ≤ 49152
 
 -- a leaf of len bytes stands in a message of `size` bytes, and in the store d of `used` bytes, which has room for another text
-pub record LeafHeld (d : Text) (start len used size : ℕ) : Type 0 where
+pub record LeafHeld (start len used size : ℕ) : Type 0 where
   pub inside : start + len ≤ used
   pub within : len ≤ size
   pub most : size ≤ 49152
-  pub ample : used + 49152 ≤ length d
+  pub ample : used ≤ 98304

@@ -47,20 +47,18 @@ knownFrom text bytes known i zero = []
 knownFrom text bytes known i (suc n) = knownAt text bytes known i ∷ knownFrom text bytes known (i + 1) n
 
 -- row i lies in the table, and its value in the bytes; so do n rows
-pub record Slot (bytes : Text) (known : List ℕ) (i : ℕ) : Type 0 where
-  pub row : i * 8 + 8 ≤ length known
-  pub inside : getD known (i * 8 + 1) 0 + getD known (i * 8 + 2) 0 ≤ length bytes
+pub record Slot (known : List ℕ) (i : ℕ) : Type 0 where
+  pub row : i < 512
+  pub inside : getD known (i * 8 + 1) 0 + getD known (i * 8 + 2) 0 ≤ 16384
 
-pub record Slots (bytes : Text) (known : List ℕ) (n : ℕ) : Type 0 where
+pub record Slots (known : List ℕ) (n : ℕ) : Type 0 where
   pub few : n ≤ 512
-  pub slot : (i : ℕ) → i < n → Slot bytes known i
+  pub slot : (i : ℕ) → i < n → Slot known i
 
 -- n rows whose values take the first `used` bytes
 pub record GoodKnown (bytes : Text) (known : List ℕ) (n used : ℕ) : Type 0 where
   pub few : n ≤ 512
-  pub long : 4096 ≤ length known
   pub within : used ≤ 16384
-  pub wide : 16384 ≤ length bytes
   pub slots : (i : ℕ) → i < n → getD known (i * 8 + 1) 0 + getD known (i * 8 + 2) 0 ≤ used
   pub sum : used ≡ knownBytes (knownFrom [] bytes known 0 n)
 

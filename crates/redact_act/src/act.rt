@@ -28,8 +28,8 @@ pub enum Fate {
 }
 
 // Writes the null to store from index used on, in the place of a leaf of len bytes.
-fn put_null(store: &mut [u8], len: usize, used: usize, size: usize) -> Fate
-    requires { ⌜ (len ≤ size) × (size ≤ 49152) × (used + 49152 ≤ length (now store)) ⌝ }
+fn put_null(store: &mut [u8; 147456], len: usize, used: usize, size: usize) -> Fate
+    requires { ⌜ (len ≤ size) × (size ≤ 49152) × (used ≤ 98304) ⌝ }
     ensures { λ r. ⌜ Acted (becomes NULL) len size (now (store .entry)) used (now (store .exit)) r ⌝ }
 {
     if 49152 < size - len + 2 {
@@ -43,12 +43,12 @@ fn put_null(store: &mut [u8], len: usize, used: usize, size: usize) -> Fate
 fn put_encoded(
     w: &[u8],
     s: Separators,
-    store: &mut [u8],
+    store: &mut [u8; 147456],
     len: usize,
     used: usize,
     size: usize,
 ) -> Fate
-    requires { ⌜ (len ≤ size) × (size ≤ 49152) × (used + 49152 ≤ length (now store)) × (length (now w) ≤ 49152) ⌝ }
+    requires { ⌜ (len ≤ size) × (size ≤ 49152) × (used ≤ 98304) × (length (now w) ≤ 49152) ⌝ }
     ensures { λ r. ⌜ Acted (becomes (encode s (now (w .entry)))) len size (now (store .entry)) used (now (store .exit)) r ⌝ }
 {
     let n = escape::encoded_len(w, s);
@@ -68,12 +68,12 @@ fn put_other(
     w: &[u8],
     v: &[u8],
     s: Separators,
-    store: &mut [u8],
+    store: &mut [u8; 147456],
     len: usize,
     used: usize,
     size: usize,
 ) -> Fate
-    requires { ⌜ (len ≤ size) × (size ≤ 49152) × (used + 49152 ≤ length (now store)) × (length (now w) ≤ 49152) ⌝ }
+    requires { ⌜ (len ≤ size) × (size ≤ 49152) × (used ≤ 98304) × (length (now w) ≤ 49152) ⌝ }
     ensures { λ r. ⌜ Acted (replaced s (some (now (w .entry))) (now (v .entry))) len size (now (store .entry)) used (now (store .exit)) r ⌝ }
 {
     if same_bytes(w, v) {
@@ -89,28 +89,32 @@ fn replace(
     a: Action,
     text: &[u8],
     v: &[u8],
-    store: &mut [u8],
+    store: &mut [u8; 147456],
     len: usize,
     used: usize,
     size: usize,
-    new: &mut [u8],
+    new: &mut [u8; 49152],
 ) -> Fate
-    requires { ⌜ ActionHeld (now text) a × Short key (now text) a × (length (now v) ≤ 49152) × (len ≤ size) × (size ≤ 49152) × (used + 49152 ≤ length (now store)) × (49152 ≤ length (now new)) ⌝ }
+    requires { ⌜ ActionHeld (now text) a × Short key (now text) a × (length (now v) ≤ 49152) × (len ≤ size) × (size ≤ 49152) × (used ≤ 98304) ⌝ }
     ensures { λ r. ⌜ Acted (replaced s (Actions.apply key (asAction (now (text .entry)) a) (now (v .entry))) (now (v .entry))) len size (now (store .entry)) used (now (store .exit)) r ⌝ }
 {
     match action::apply(a, text, key, v, new) {
-        Applied::Written(n) => put_other(&new[0..n], v, s, store, len, used, size),
+        Applied::Written(n) => {
+            let all = &new[..];
+            put_other(&all[0..n], v, s, store, len, used, size)
+        },
         Applied::Nothing => Fate::Stays,
     }
 }
 
 // The action null on a leaf.
-fn act_null(store: &mut [u8], start: usize, len: usize, used: usize, size: usize) -> Fate
-    requires { ⌜ LeafHeld (now store) start len used size ⌝ }
+fn act_null(store: &mut [u8; 147456], start: usize, len: usize, used: usize, size: usize) -> Fate
+    requires { ⌜ LeafHeld start len used size ⌝ }
     ensures { λ r. ⌜ Acted (nulled (part (now (store .entry)) start len)) len size (now (store .entry)) used (now (store .exit)) r ⌝ }
 {
     let end = start + len;
-    if escape::is_null(&store[start..end]) {
+    let all = &store[..];
+    if escape::is_null(&all[start..end]) {
         return Fate::Stays;
     }
     put_null(store, len, used, size)
@@ -122,20 +126,22 @@ fn act_value(
     s: Separators,
     a: Action,
     text: &[u8],
-    store: &mut [u8],
+    store: &mut [u8; 147456],
     start: usize,
     len: usize,
     used: usize,
     size: usize,
-    value: &mut [u8],
-    new: &mut [u8],
+    value: &mut [u8; 49152],
+    new: &mut [u8; 49152],
 ) -> Fate
-    requires { ⌜ ActionHeld (now text) a × Short key (now text) a × LeafHeld (now store) start len used size × (49152 ≤ length (now value)) × (49152 ≤ length (now new)) ⌝ }
+    requires { ⌜ ActionHeld (now text) a × Short key (now text) a × LeafHeld start len used size ⌝ }
     ensures { λ r. ⌜ Acted (onValue key s (asAction (now (text .entry)) a) (part (now (store .entry)) start len)) len size (now (store .entry)) used (now (store .exit)) r ⌝ }
 {
     let end = start + len;
-    let n = escape::value(&store[start..end], s, value, 0);
-    replace(key, s, a, text, &value[0..n], store, len, used, size, new)
+    let all = &store[..];
+    let n = escape::value(&all[start..end], s, value, 0);
+    let decoded = &value[..];
+    replace(key, s, a, text, &decoded[0..n], store, len, used, size, new)
 }
 
 // The action a, whose replacement stands in text, on the leaf of len bytes in store from index start on, of a message of size bytes.
@@ -145,22 +151,23 @@ pub fn act(
     s: Separators,
     a: Action,
     text: &[u8],
-    store: &mut [u8],
+    store: &mut [u8; 147456],
     start: usize,
     len: usize,
     used: usize,
     size: usize,
-    value: &mut [u8],
-    new: &mut [u8],
+    value: &mut [u8; 49152],
+    new: &mut [u8; 49152],
 ) -> Fate
-    requires { ⌜ ActionHeld (now text) a × Short key (now text) a × LeafHeld (now store) start len used size × (49152 ≤ length (now value)) × (49152 ≤ length (now new)) ⌝ }
+    requires { ⌜ ActionHeld (now text) a × Short key (now text) a × LeafHeld start len used size ⌝ }
     ensures { λ r. ⌜ Acted (Spec.act key s (asAction (now (text .entry)) a) (part (now (store .entry)) start len)) len size (now (store .entry)) used (now (store .exit)) r ⌝ }
 {
     if action::is_null(a) {
         return act_null(store, start, len, used, size);
     }
     let end = start + len;
-    if escape::is_empty_or_null(&store[start..end]) {
+    let all = &store[..];
+    if escape::is_empty_or_null(&all[start..end]) {
         return Fate::Stays;
     }
     act_value(key, s, a, text, store, start, len, used, size, value, new)

@@ -7,7 +7,7 @@ use er7_value::word;
 use text::bytes::copy_at;
 use text::bytes::same_bytes;
 ghost use mathlib.Core.Path.{_≡_};
-ghost use Prim.Native.Nat.{_+_, _*_, _≤_};
+ghost use Prim.Native.Nat.{_+_, _*_, _≤_, _<_};
 ghost use lib.ListN.{length};
 ghost use Rattle.text.specs.Text.{Text, same};
 ghost use Rattle.message_model.specs.Value.{isWholeWord};
@@ -93,30 +93,32 @@ pub fn code_of(a: Action) -> Code
 }
 
 // Whether v is the value of row i.
-fn is_value(v: &[u8], bytes: &[u8], known: &[usize], i: usize) -> bool
-    requires { ⌜ Slot (now bytes) (now known) i ⌝ }
+fn is_value(v: &[u8], bytes: &[u8; 16384], known: &[usize; 4096], i: usize) -> bool
+    requires { ⌜ Slot (now known) i ⌝ }
     ensures { λ r. ⌜ r ≡ same (now (v .entry)) (valueAt (now (bytes .entry)) (now (known .entry)) i) ⌝ }
 {
     let row = i * 8;
     let start = known[row + 1];
     let end = start + known[row + 2];
-    same_bytes(v, &bytes[start..end])
+    let all = &bytes[..];
+    same_bytes(v, &all[start..end])
 }
 
 // Whether the value of row i is a whole word of v.
-fn has_value(v: &[u8], bytes: &[u8], known: &[usize], i: usize) -> bool
-    requires { ⌜ Slot (now bytes) (now known) i ⌝ }
+fn has_value(v: &[u8], bytes: &[u8; 16384], known: &[usize; 4096], i: usize) -> bool
+    requires { ⌜ Slot (now known) i ⌝ }
     ensures { λ r. ⌜ r ≡ isWholeWord (valueAt (now (bytes .entry)) (now (known .entry)) i) (now (v .entry)) ⌝ }
 {
     let row = i * 8;
     let start = known[row + 1];
     let end = start + known[row + 2];
-    word::is_whole_word(&bytes[start..end], v)
+    let all = &bytes[..];
+    word::is_whole_word(&all[start..end], v)
 }
 
 // The action of row i.
-pub fn action_at(known: &[usize], i: usize) -> Action
-    requires { ⌜ i * 8 + 8 ≤ length (now known) ⌝ }
+pub fn action_at(known: &[usize; 4096], i: usize) -> Action
+    requires { ⌜ i < 512 ⌝ }
     ensures { λ r. ⌜ r ≡ actionAt (now (known .entry)) i ⌝ }
 {
     let row = i * 8;
@@ -124,8 +126,8 @@ pub fn action_at(known: &[usize], i: usize) -> Action
 }
 
 // Whether v is one of n learnt values.
-pub fn knows(v: &[u8], bytes: &[u8], known: &[usize], n: usize) -> bool
-    requires { ⌜ Slots (now bytes) (now known) n ⌝ }
+pub fn knows(v: &[u8], bytes: &[u8; 16384], known: &[usize; 4096], n: usize) -> bool
+    requires { ⌜ Slots (now known) n ⌝ }
     ensures { λ r. ⌜ ((text : Text) → r ≡ Spec.knows (now (v .entry)) (knownFrom text (now (bytes .entry)) (now (known .entry)) 0 n)) ⌝ }
 {
     let mut i = 0;
@@ -139,8 +141,8 @@ pub fn knows(v: &[u8], bytes: &[u8], known: &[usize], n: usize) -> bool
 }
 
 // The row of the first of n learnt values that is a whole word of v, which is in lower case; or n.
-pub fn found(v: &[u8], bytes: &[u8], known: &[usize], n: usize) -> usize
-    requires { ⌜ Slots (now bytes) (now known) n ⌝ }
+pub fn found(v: &[u8], bytes: &[u8; 16384], known: &[usize; 4096], n: usize) -> usize
+    requires { ⌜ Slots (now known) n ⌝ }
     ensures { λ r. ⌜ FoundAt (foundIn (now (v .entry)) (now (bytes .entry)) (now (known .entry)) n) (now (known .entry)) n r ⌝ }
 {
     let mut i = 0;
@@ -157,19 +159,20 @@ pub fn found(v: &[u8], bytes: &[u8], known: &[usize], n: usize) -> usize
 pub fn for_sweep(
     s: Separators,
     t: &[u8],
-    work: &mut [u8],
-    bytes: &[u8],
-    known: &[usize],
+    work: &mut [u8; 49152],
+    bytes: &[u8; 16384],
+    known: &[usize; 4096],
     n: usize,
 ) -> usize
-    requires { ⌜ Slots (now bytes) (now known) n × (length (now t) ≤ length (now work)) ⌝ }
+    requires { ⌜ Slots (now known) n × (length (now t) ≤ 49152) ⌝ }
     ensures { λ r. ⌜ FoundAt (sweptIn s (now (t .entry)) (now (bytes .entry)) (now (known .entry)) n) (now (known .entry)) n r ⌝ }
 {
     if escape::is_empty_or_null(t) {
         return n;
     }
     let m = word::lower_value(t, s, work, 0);
-    found(&work[0..m], bytes, known, n)
+    let all = &work[..];
+    found(&all[0..m], bytes, known, n)
 }
 
 // Writes row n: a value of len bytes from index start on, with the action a.
@@ -190,8 +193,8 @@ fn put_known(known: &mut [usize], n: usize, start: usize, len: usize, a: Action)
 pub fn learn(
     v: &[u8],
     a: Action,
-    bytes: &mut [u8],
-    known: &mut [usize],
+    bytes: &mut [u8; 16384],
+    known: &mut [usize; 4096],
     n: usize,
     used: usize,
 ) -> Learnt
@@ -215,13 +218,13 @@ pub fn learn_leaf(
     a: Action,
     s: Separators,
     t: &[u8],
-    work: &mut [u8],
-    bytes: &mut [u8],
-    known: &mut [usize],
+    work: &mut [u8; 49152],
+    bytes: &mut [u8; 16384],
+    known: &mut [usize; 4096],
     n: usize,
     used: usize,
 ) -> Learnt
-    requires { ⌜ GoodKnown (now bytes) (now known) n used × (length (now t) ≤ 49152) × (length (now t) ≤ length (now work)) ⌝ }
+    requires { ⌜ GoodKnown (now bytes) (now known) n used × (length (now t) ≤ 49152) ⌝ }
     ensures { λ r. ⌜ Learns (learnLeaf s (now (t .entry)) a) a (now (bytes .entry)) (now (known .entry)) n (now (bytes .exit)) (now (known .exit)) r ⌝ }
 {
     if action::is_keep(a) {
@@ -234,5 +237,6 @@ pub fn learn_leaf(
     if m < 3 {
         return Learnt::Kept(n, used);
     }
-    learn(&work[0..m], a, bytes, known, n, used)
+    let all = &work[..];
+    learn(&all[0..m], a, bytes, known, n, used)
 }

@@ -9,7 +9,6 @@ use lib.Dec.{eqb}
 use lib.ListN.{length, take, drop, length-append}
 use Rattle.text.specs.Text.{Text, bytes, Wrote}
 use Rattle.text.proofs.Runs.{part-slice}
-use Rattle.text.proofs.Writes.{wrote-length}
 use Rattle.refusal.specs.declared.Refusal.the-variants.{MessageTooLong}
 use Rattle.message_model.specs.Value.{NULL, isNull}
 use Rattle.run_model.specs.Redact.{Reach, Event, becomes, collapse, after, size, Row, changing, booked, bookAll}
@@ -74,7 +73,6 @@ module _ {cells : List ℕ} {store : Text} {n i end : ℕ} {c : Counters} (g : N
           place = v .place;
           lens = λ j ne. lens-kept cells cells′ j (v .gone j) (v .other j 2 (omega arith) ne);
           cells-long = v .rows;
-          store-long = wrote-length p;
           report-long = e .row .long;
           flat = omega (arith, e .used);
           grows = omega (arith, e .used);
@@ -106,7 +104,6 @@ module _ {cells : List ℕ} {store : Text} {n i end : ℕ} {c : Counters} (g : N
       place = λ j. refl;
       lens = λ j ne. refl;
       cells-long = refl;
-      store-long = refl;
       report-long = refl;
       flat = omega arith;
       grows = omega arith;
@@ -139,16 +136,15 @@ ready-node r {cells} {i = i} {end = end} {e = e} g l =
       texts = omega (arith, sum-more cells i (e - i) (end - i) (omega (arith, l, k, g .inside)), g .texts);
       most = g .most;
       ample = g .ample;
-      low = g .low;
       rows = g .rows;
       report = g .report;
     }
 
-pub ready-legible : {cells : List ℕ} {store : Text} {n i end : ℕ} {c : Counters} → NodeReady cells store n i end c → AllLegible cells store i end
+pub ready-legible : {cells : List ℕ} {store : Text} {n i end : ℕ} {c : Counters} → NodeReady cells store n i end c → AllLegible cells i end
 ready-legible {cells} {i = i} {end = end} g = record {
   order = omega (arith, g .inside);
   rows = omega (arith, g .ends, g .good .rows);
-  inside = λ j h. omega (arith, g .good .ends j (omega (arith, g .ends)), g .good .room);
+  inside = λ j h. omega (arith, g .good .ends j (omega (arith, g .ends)), g .ample);
   short = λ j h l. omega (arith, sum-each cells i (end - i) j h (omega arith), g .texts);
 }
 
@@ -164,7 +160,6 @@ ready-learnt g m e =
       texts = g .texts;
       most = rw (l .size) (g .most);
       ample = rw (l .used) (g .ample);
-      low = rw (l .used) (g .low);
       rows = rw (l .rows) (g .rows);
       report = rw (l .report) (g .report);
     }

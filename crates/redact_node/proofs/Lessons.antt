@@ -188,9 +188,9 @@ module _ (cells : List ℕ) (store : Text) (i : ℕ) where
   unfolding liveTexts
   one-live e = sym (rw e)
 
-  pub one-readable : {bytes : Text} {known : List ℕ} {c : Counters} → Legible cells store bytes known i c → cell cells i 3 ≡ 0 → Readable cells store bytes known i c
-  one-readable l e = record { row = l .row; inside = l .inside; short = rw (live-length cells i e) at (l .short); good = l .good }
+pub one-readable : {cells bytes : Text} {known : List ℕ} {i : ℕ} {c : Counters} → Legible cells bytes known i c → cell cells i 3 ≡ 0 → Readable cells bytes known i c
+one-readable {cells} {i = i} l e = record { row = l .row; inside = l .inside; short = rw (live-length cells i e) at (l .short); good = l .good }
 
-pub all-legible : {cells : List ℕ} {store bytes : Text} {known : List ℕ} {first end i : ℕ} {c : Counters} → AllLegible cells store first end → first ≤ i → i < end
-    → GoodKnown bytes known (c .known) (c .«known_used») → Legible cells store bytes known i c
+pub all-legible : {cells : List ℕ} {bytes : Text} {known : List ℕ} {first end i : ℕ} {c : Counters} → AllLegible cells first end → first ≤ i → i < end
+    → GoodKnown bytes known (c .known) (c .«known_used») → Legible cells bytes known i c
 all-legible l h k g = record { row = omega (arith, l .rows); inside = l .inside _ k; short = l .short _ h k; good = g }

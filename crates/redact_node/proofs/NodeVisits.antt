@@ -78,7 +78,6 @@ module _ (key : ℕ) (s : Separators) (r : Rule) (g : Label) (sweep : Bool) (n e
       place = v .place;
       lens = λ j ne. lens-kept cells cells′ j (v .other j 3 (omega arith) ne) (v .other j 2 (omega arith) ne);
       cells-long = v .rows;
-      store-long = refl;
       report-long = refl;
       paid = λ f. clash f;
       flat = λ f. omega arith;
@@ -89,7 +88,6 @@ module _ (key : ℕ) (s : Separators) (r : Rule) (g : Label) (sweep : Bool) (n e
       book = λ b w. rw says (unfold bookAll in w);
     };
     held = k;
-    named-long = refl;
   }
     where
       here : leafAt (marked named) cells′ store i ≡ rulePass key s r .leaf g (leafAt (marked named) cells store i) (behind named cells store end i)
@@ -172,7 +170,6 @@ module _ (key : ℕ) (s : Separators) (r : Rule) (g : Label) (end i : ℕ) (name
           place = d .place;
           lens = d .lens;
           cells-long = d .cells-long;
-          store-long = d .store-long;
           report-long = d .report-long;
           paid = λ f. clash f;
           flat = λ f. omega (arith, d .flat, m .used);
@@ -186,7 +183,6 @@ module _ (key : ℕ) (s : Separators) (r : Rule) (g : Label) (end i : ℕ) (name
               rw (first-said, book-append sweep es fs b, known-same) (d .book sweep (knownNow text bytes′ known′ c₁) (bookAll sweep es b) (m .book report b k));
         };
         held = record { good = rw (d .known, d .known-used) (m .held .good); held = rw (d .known) (m .held .held) };
-        named-long = refl;
       }
 
 -- by what the code found

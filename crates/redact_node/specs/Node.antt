@@ -45,16 +45,16 @@ leavesSize cells i zero = 0
 leavesSize cells i (suc k) = leafSize cells i + leavesSize cells (suc i) k
 
 -- the text of leaf i may be learnt, unless it has vanished; so may those of the leaves from leaf i to before leaf `end`
-pub record Legible (cells : List ℕ) (store bytes : Text) (known : List ℕ) (i : ℕ) (c : Counters) : Type 0 where
+pub record Legible (cells : List ℕ) (bytes : Text) (known : List ℕ) (i : ℕ) (c : Counters) : Type 0 where
   pub row : i * 8 + 8 ≤ length cells
-  pub inside : cell cells i 1 + cell cells i 2 ≤ length store
+  pub inside : cell cells i 1 + cell cells i 2 ≤ 147456
   pub short : liveLen cells i ≤ 49152
   pub good : GoodKnown bytes known (c .known) (c .«known_used»)
 
-pub record AllLegible (cells : List ℕ) (store : Text) (first end : ℕ) : Type 0 where
+pub record AllLegible (cells : List ℕ) (first end : ℕ) : Type 0 where
   pub order : first ≤ end
   pub rows : end * 8 ≤ length cells
-  pub inside : (i : ℕ) → i < end → cell cells i 1 + cell cells i 2 ≤ length store
+  pub inside : (i : ℕ) → i < end → cell cells i 1 + cell cells i 2 ≤ 147456
   pub short : (i : ℕ) → first ≤ i → i < end → liveLen cells i ≤ 49152
 
 -- ---- the collapse
@@ -72,7 +72,6 @@ pub record Nulled (F : Fate) (ρ : Row) (went n i : ℕ) (cells : List ℕ) (sto
   pub place : (j : ℕ) → placeAt cells′ j ≡ placeAt cells j
   pub lens : (j : ℕ) → (j ≡ i → ⊥) → liveLen cells′ j ≡ liveLen cells j
   pub cells-long : length cells′ ≡ length cells
-  pub store-long : length store′ ≡ length store
   pub report-long : length report′ ≡ length report
   pub flat : c′ .used ≤ c .used + 2
   pub grows : c .used ≤ c′ .used

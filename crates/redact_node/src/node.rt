@@ -98,13 +98,13 @@ fn learn_live(
     sweep: bool,
     i: usize,
     cells: &[usize],
-    store: &[u8],
-    value: &mut [u8],
-    bytes: &mut [u8],
-    known: &mut [usize],
+    store: &[u8; 147456],
+    value: &mut [u8; 49152],
+    bytes: &mut [u8; 16384],
+    known: &mut [usize; 4096],
     c: Counters,
 ) -> Done
-    requires { ⌜ Legible (now cells) (now store) (now bytes) (now known) i c × (49152 ≤ length (now value)) ⌝ }
+    requires { ⌜ Legible (now cells) (now bytes) (now known) i c ⌝ }
     ensures { λ r. ⌜ ((text : Text) → ActionHeld text a → KnownHeld text (now (bytes .entry)) (now (known .entry)) c → Learning (learning s (asAction text a) (liveTexts (now (cells .entry)) (now (store .entry)) i 1)) sweep text (now (bytes .entry)) (now (known .entry)) c (now (bytes .exit)) (now (known .exit)) r) ⌝ }
 {
     let row = i * 8;
@@ -122,13 +122,13 @@ fn learn_all(
     first: usize,
     end: usize,
     cells: &[usize],
-    store: &[u8],
-    value: &mut [u8],
-    bytes: &mut [u8],
-    known: &mut [usize],
+    store: &[u8; 147456],
+    value: &mut [u8; 49152],
+    bytes: &mut [u8; 16384],
+    known: &mut [usize; 4096],
     c: Counters,
 ) -> Done
-    requires { ⌜ AllLegible (now cells) (now store) first end × GoodKnown (now bytes) (now known) (c .known) (c .«known_used») × (49152 ≤ length (now value)) ⌝ }
+    requires { ⌜ AllLegible (now cells) first end × GoodKnown (now bytes) (now known) (c .known) (c .«known_used») ⌝ }
     ensures { λ r. ⌜ ((text : Text) → ActionHeld text a → KnownHeld text (now (bytes .entry)) (now (known .entry)) c → Learning (learning s (asAction text a) (liveTexts (now (cells .entry)) (now (store .entry)) first (end - first))) sweep text (now (bytes .entry)) (now (known .entry)) c (now (bytes .exit)) (now (known .exit)) r) ⌝ }
 {
     let mut state = c;
@@ -158,7 +158,7 @@ fn put_null(
     end: usize,
     went: usize,
     cells: &mut [usize],
-    store: &mut [u8],
+    store: &mut [u8; 147456],
     report: &mut [u8],
     c: Counters,
 ) -> Done
@@ -183,7 +183,7 @@ fn null_node(
     i: usize,
     end: usize,
     cells: &mut [usize],
-    store: &mut [u8],
+    store: &mut [u8; 147456],
     report: &mut [u8],
     c: Counters,
 ) -> Done
@@ -195,7 +195,8 @@ fn null_node(
     let len = cells[at + 2];
     let stop = start + len;
     let rest = leaves_size(i + 1, end, cells);
-    if is_null(&store[start..stop]) & (rest == 0) {
+    let all = &store[..];
+    if is_null(&all[start..stop]) & (rest == 0) {
         return Done::Going(c);
     }
     put_null(
@@ -227,14 +228,14 @@ fn collapse_node(
     i: usize,
     end: usize,
     cells: &mut [usize],
-    store: &mut [u8],
+    store: &mut [u8; 147456],
     report: &mut [u8],
-    value: &mut [u8],
-    bytes: &mut [u8],
-    known: &mut [usize],
+    value: &mut [u8; 49152],
+    bytes: &mut [u8; 16384],
+    known: &mut [usize; 4096],
     c: Counters,
 ) -> Done
-    requires { ⌜ ActionHeld (now text) (rule .action) × (asReach reach ≡ Redact.reach (asRule (now text) rule)) × (isNode (asReach reach) ≡ true) × (p ≡ placeAt (now cells) i) × (covers (asRule (now text) rule) (asLabel g) (placeAt (now cells) i) ≡ true) × (startsAt (asReach reach) (placeAt (now cells) i) ≡ true) × NodeReady (now cells) (now store) n i end c × (cell (now cells) i 3 ≡ 0) × KnownHeld (now text) (now bytes) (now known) c × (length (now text) ≤ 32768) × (49152 ≤ length (now value)) ⌝ }
+    requires { ⌜ ActionHeld (now text) (rule .action) × (asReach reach ≡ Redact.reach (asRule (now text) rule)) × (isNode (asReach reach) ≡ true) × (p ≡ placeAt (now cells) i) × (covers (asRule (now text) rule) (asLabel g) (placeAt (now cells) i) ≡ true) × (startsAt (asReach reach) (placeAt (now cells) i) ≡ true) × NodeReady (now cells) (now store) n i end c × (cell (now cells) i 3 ≡ 0) × KnownHeld (now text) (now bytes) (now known) c × (length (now text) ≤ 32768) ⌝ }
     ensures { λ r. ⌜ ((key : ℕ) (named : List Bool) → RuleVisitedOr (rulePass key s (asRule (now (text .entry)) rule)) true sweep (asLabel g) n end i (now (text .entry)) named (now (cells .entry)) (now (store .entry)) (now (report .entry)) (now (bytes .entry)) (now (known .entry)) c named (now (cells .exit)) (now (store .exit)) (now (report .exit)) (now (bytes .exit)) (now (known .exit)) r) ⌝ }
 {
     let a = rule.action;
@@ -258,14 +259,14 @@ pub fn collapse_leaf(
     i: usize,
     end: usize,
     cells: &mut [usize],
-    store: &mut [u8],
+    store: &mut [u8; 147456],
     report: &mut [u8],
-    value: &mut [u8],
-    bytes: &mut [u8],
-    known: &mut [usize],
+    value: &mut [u8; 49152],
+    bytes: &mut [u8; 16384],
+    known: &mut [usize; 4096],
     c: Counters,
 ) -> Done
-    requires { ⌜ ActionHeld (now text) (rule .action) × (asReach reach ≡ Redact.reach (asRule (now text) rule)) × (isNode (asReach reach) ≡ true) × (reachesSegment (asPath (now text) (rule .path)) (asLabel g) ≡ true) × NodeReady (now cells) (now store) n i end c × KnownHeld (now text) (now bytes) (now known) c × (length (now text) ≤ 32768) × (49152 ≤ length (now value)) ⌝ }
+    requires { ⌜ ActionHeld (now text) (rule .action) × (asReach reach ≡ Redact.reach (asRule (now text) rule)) × (isNode (asReach reach) ≡ true) × (reachesSegment (asPath (now text) (rule .path)) (asLabel g) ≡ true) × NodeReady (now cells) (now store) n i end c × KnownHeld (now text) (now bytes) (now known) c × (length (now text) ≤ 32768) ⌝ }
     ensures { λ r. ⌜ ((key : ℕ) (named : List Bool) → RuleVisitedOr (rulePass key s (asRule (now (text .entry)) rule)) true sweep (asLabel g) n end i (now (text .entry)) named (now (cells .entry)) (now (store .entry)) (now (report .entry)) (now (bytes .entry)) (now (known .entry)) c named (now (cells .exit)) (now (store .exit)) (now (report .exit)) (now (bytes .exit)) (now (known .exit)) r) ⌝ }
 {
     let at = i * 8;

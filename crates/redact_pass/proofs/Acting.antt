@@ -12,7 +12,7 @@ use Rattle.text.specs.Text.{Text, bytes, Wrote}
 use Rattle.text.specs.Number.{eightBytes}
 use Rattle.text.proofs.Spelling.{hexadecimal-length}
 use Rattle.text.proofs.Laws.{clash, zero-or}
-use Rattle.er7_redact.specs.Pseudonym as P
+use Rattle.pseudonym.specs.Pseudonym as P
 use Rattle.er7_redact.specs.declared.action.Action.{Action as HeldAction}
 use Rattle.er7_redact.specs.declared.action.Action.the-variants as Held
 use Rattle.er7_redact.specs.Action.{apply, asAction, ActionHeld, room}
@@ -68,7 +68,7 @@ unfolding liveLen
 set-lens v j ne = rw (v .gone j, v .other j 2 (omega arith) ne)
 
 module _ {cells : List ℕ} {store : Text} {n i : ℕ} {c : Counters} (g : Roomy cells store n i c) where
-  pub leaf-held : LeafHeld store (cell cells i 1) (cell cells i 2) (c .used) (c .size)
+  pub leaf-held : LeafHeld (cell cells i 1) (cell cells i 2) (c .used) (c .size)
   leaf-held = record { inside = g .good .ends i (g .inside); within = g .within; most = g .most; ample = g .ample }
 
   here-is : textAt cells store i ≡ some (textOf cells store i)
@@ -84,7 +84,6 @@ module _ {cells : List ℕ} {store : Text} {n i : ℕ} {c : Counters} (g : Roomy
     place = λ j. refl;
     lens = λ j ne. refl;
     cells-long = refl;
-    store-long = refl;
     report-long = refl;
     paid = omega arith;
     grows = omega arith;
@@ -134,7 +133,7 @@ module _ {cells : List ℕ} {store : Text} {n i : ℕ} {c : Counters} (g : Roomy
   acted-becomes (becomes w) ρ report {store′} {report′} {cells′} {c′} a q e =
       let f = becomes-fits w (cell cells i 2) (c .size) (sym (a .result) ∙ q) in
       let l = ltb-false 49152 (c .size - cell cells i 2 + length w) (f .0) in
-      let p : Wrote store (c .used) w store′ (c .used + length w) = record { end = refl; high = omega (arith, g .ample, g .within); text = a .store ∙ rw (f .0) } in
+      let p : Wrote store (c .used) w store′ (c .used + length w) = record { end = refl; high = omega (arith, a .fits _ q, f .1); text = a .store ∙ rw (f .0) } in
       let v : TextSet cells i (c .used) (length w) cells′ = rw (f .1) at (e .set) in
       let u : c′ .used ≡ c .used + length w = rw (f .1) at (e .used) in
       let z : c′ .size ≡ c .size - cell cells i 2 + length w = rw (f .1) at (e .size) in
@@ -146,7 +145,6 @@ module _ {cells : List ℕ} {store : Text} {n i : ℕ} {c : Counters} (g : Roomy
           place = v .place;
           lens = set-lens v;
           cells-long = v .rows;
-          store-long = a .long;
           report-long = e .row .long;
           paid = omega (arith, u, z, g .within);
           grows = omega (arith, u);

@@ -6,7 +6,7 @@ use mathlib.Core.Option.{Option, none, some}
 use Prim.Native.Nat.{ℕ, suc, _+_, _-_, _≤_, _<_}
 use native.Mathlib.Omega.{arith}
 use borrow.Author.Tests.{ne-eqb, not-true, not-false}
-use lib.ListN.{length, set, length-set}
+use lib.ListN.{length}
 use lib.Seq.{getD-set-same, getD-set-other}
 use Rattle.text.specs.Text.{Text}
 use Rattle.text.proofs.Laws.{clash}
@@ -23,7 +23,7 @@ use Rattle.run_model.proofs.InStep.{keep-is, keep-stays}
 use Rattle.er7_table.specs.Table.{cell, listOf, placeAt, textAt, leafAt, Good}
 use Rattle.redact_row.specs.Reach.{reachesSegment, reachesPlace}
 use Rattle.redact_row.proofs.Reaches.{covers-steps}
-use Rattle.redact_pass.specs.State.{textOf, Roomy, Booked, Changed, ActedOn, knownNow, KnownHeld, LearntTo, Learning}
+use Rattle.redact_pass.specs.State.{textOf, Roomy, Marked, Booked, Changed, ActedOn, knownNow, KnownHeld, LearntTo, Learning}
 use Rattle.redact_pass.specs.Visit.{marked, rulePass, saidOf, RuleVisited, RuleVisitedOr}
 use Rattle.redact_pass.specs.declared.leaf.Counters.{Counters}
 use Rattle.redact_pass.specs.declared.leaf.Done.{Done}
@@ -51,7 +51,6 @@ learnt-roomy w l = record {
   within = rw (l .size) (w .within);
   most = rw (l .size) (w .most);
   ample = rw (l .used) (w .ample);
-  low = rw (l .used) (w .low);
   rows = rw (l .rows) (w .rows);
   report = rw (l .report) (w .report);
 }
@@ -106,14 +105,14 @@ module _ (key : ℕ) (s : Separators) (r : Rule) (g : Label) where
     rule-gone e =
         let q : textAt cells store i ≡ none = unfold textAt in rw (ne-eqb (cell cells i 3) 0 e) in
         let k = gone-same (placeAt cells i) (marked named i) (textAt cells store i) (listOf (leafAt (marked named) cells store) (suc i) (end - suc i)) q in
-        record { visited = visited-same node sweep d z (k .0) (k .1); held = h; named-long = refl }
+        record { visited = visited-same node sweep d z (k .0) (k .1); held = h }
 
     pub rule-uncovered : covers r g (placeAt cells i) ≡ false
         → RuleVisited (rulePass key s r) node sweep g n end i text named cells store report bytes known c named cells store report bytes known c
     unfolding rulePass saidOf leafAt
     rule-uncovered e =
         let k = uncovered-same (placeAt cells i) (marked named i) (textAt cells store i) (listOf (leafAt (marked named) cells store) (suc i) (end - suc i)) e in
-        record { visited = visited-same node sweep d z (k .0) (k .1); held = h; named-long = refl }
+        record { visited = visited-same node sweep d z (k .0) (k .1); held = h }
 
   module _ (sweep : Bool) (n end i : ℕ) (text : Text) (named : List Bool) (cells : List ℕ) (store report bytes : Text) (known : List ℕ) (c : Counters)
       (w : Roomy cells store n i c) (e : covers r g (placeAt cells i) ≡ true) (q : reach r ≡ each-leaf) where
@@ -131,24 +130,24 @@ module _ (key : ℕ) (s : Separators) (r : Rule) (g : Label) where
         rw said
         (book-append sweep (learning s (r .action) (textOf cells store i ∷ [])) _ b ∙ ap (bookAll sweep _) (l .out report b k) ∙ stopped-stays sweep _ x)
 
-    module _ (inside : i < length named) {bytes′ : Text} {known′ : List ℕ} {c₁ : Counters} (l : LearntTo (learning s (r .action) (textOf cells store i ∷ [])) sweep text bytes known c bytes′ known′ c₁) where
-      marks-other : (j : ℕ) → (j ≡ i → ⊥) → marked (set named i true) j ≡ marked named j
+    module _ {named′ : List Bool} (mk : Marked named i named′) {bytes′ : Text} {known′ : List ℕ} {c₁ : Counters} (l : LearntTo (learning s (r .action) (textOf cells store i ∷ [])) sweep text bytes known c bytes′ known′ c₁) where
+      marks-other : (j : ℕ) → (j ≡ i → ⊥) → marked named′ j ≡ marked named j
       unfolding marked
-      marks-other j ne = getD-set-other named i j true false ne
+      marks-other j ne = rw (mk .is) (getD-set-other named i j true false ne)
 
-      marks-here : marked (set named i true) i ≡ true
+      marks-here : marked named′ i ≡ true
       unfolding marked
-      marks-here = getD-set-same named i true false inside
+      marks-here = rw (mk .is) (getD-set-same named i true false (mk .inside))
 
       module _ {p : Place} (at : p ≡ placeAt cells i) {cells′ : List ℕ} {store′ report′ : Text} where
         module _ {c′ : Counters} (d : Changed (act key s (r .action) (textOf cells store i)) (row g p (r .action)) n i cells store report c₁ cells′ store′ report′ c′) where
-          acted-here : leafAt (marked (set named i true)) cells′ store′ i ≡ rulePass key s r .leaf g (leafAt (marked named) cells store i) (listOf (leafAt (marked named) cells store) (suc i) (end - suc i))
+          acted-here : leafAt (marked named′) cells′ store′ i ≡ rulePass key s r .leaf g (leafAt (marked named) cells store i) (listOf (leafAt (marked named) cells store) (suc i) (end - suc i))
           unfolding rulePass leafAt
           acted-here =
               rw (d .place i, d .here, live-text cells store i (w .live), marks-here)
               (sym (covered-leaf (placeAt cells i) (marked named i) (textOf cells store i) (listOf (leafAt (marked named) cells store) (suc i) (end - suc i)) e q))
 
-          acted-other : (j : ℕ) → j < n → (j ≡ i → ⊥) → leafAt (marked (set named i true)) cells′ store′ j ≡ leafAt (marked named) cells store j
+          acted-other : (j : ℕ) → j < n → (j ≡ i → ⊥) → leafAt (marked named′) cells′ store′ j ≡ leafAt (marked named) cells store j
           unfolding leafAt
           acted-other j h ne = rw (d .place j, d .other j h ne, marks-other j ne)
 
@@ -162,7 +161,7 @@ module _ (key : ℕ) (s : Separators) (r : Rule) (g : Label) where
               rw (said, now-known, book-append sweep (learning s (r .action) (textOf cells store i ∷ [])) (changing (row g (placeAt cells i) (r .action)) (cell cells i 2) (act key s (r .action) (textOf cells store i))) b)
               (rw at at (d .book sweep (knownNow text bytes′ known′ c₁) _ (l .book report b k)))
 
-          rule-changed : RuleVisited (rulePass key s r) false sweep g n end i text named cells store report bytes known c (set named i true) cells′ store′ report′ bytes′ known′ c′
+          rule-changed : RuleVisited (rulePass key s r) false sweep g n end i text named cells store report bytes known c named′ cells′ store′ report′ bytes′ known′ c′
           rule-changed = record {
             visited = record {
               good = d .good;
@@ -171,7 +170,6 @@ module _ (key : ℕ) (s : Separators) (r : Rule) (g : Label) where
               place = d .place;
               lens = d .lens;
               cells-long = d .cells-long;
-              store-long = d .store-long;
               report-long = d .report-long;
               paid = λ x. rw (live-length cells i (w .live)) (omega (arith, d .paid, l .size, l .used));
               flat = λ x. clash (sym x);
@@ -182,11 +180,10 @@ module _ (key : ℕ) (s : Separators) (r : Rule) (g : Label) where
               book = acted-book;
             };
             held = record { good = rw (d .known, d .known-used) (l .held .good); held = rw (d .known) (l .held .held) };
-            named-long = length-set named i true;
           }
 
         pub rule-acted : (x : Done) → ActedOn (act key s (r .action) (textOf cells store i)) (row g p (r .action)) n i cells store report c₁ cells′ store′ report′ x
-            → RuleVisitedOr (rulePass key s r) false sweep g n end i text named cells store report bytes known c (set named i true) cells′ store′ report′ bytes′ known′ x
+            → RuleVisitedOr (rulePass key s r) false sweep g n end i text named cells store report bytes known c named′ cells′ store′ report′ bytes′ known′ x
         rule-acted (Going c′) d = rule-changed (d .out)
         rule-acted (Stopped x) d = λ b k.
             rw said
@@ -198,8 +195,8 @@ module _ (key : ℕ) (s : Separators) (r : Rule) (g : Label) where
     unfolding fateIn
     act-keep k = rw q at (keep-stays key s r (placeAt cells i) (textOf cells store i) [] (keep-is (r .action) (rw k tt)))
 
-    pub rule-kept : i < length named → KnownHeld text bytes known c → isKeep (r .action) ≡ true
-        → RuleVisited (rulePass key s r) false sweep g n end i text named cells store report bytes known c (set named i true) cells store report bytes known c
-    rule-kept inside h k =
-        rule-changed inside (learnt-none _ sweep (learn-keep s (r .action) (textOf cells store i) sweep k) h) refl
+    pub rule-kept : {named′ : List Bool} → Marked named i named′ → KnownHeld text bytes known c → isKeep (r .action) ≡ true
+        → RuleVisited (rulePass key s r) false sweep g n end i text named cells store report bytes known c named′ cells store report bytes known c
+    rule-kept mk h k =
+        rule-changed mk (learnt-none _ sweep (learn-keep s (r .action) (textOf cells store i) sweep k) h) refl
         (rw (act-keep k) (same-changed w (row g (placeAt cells i) (r .action)) report))

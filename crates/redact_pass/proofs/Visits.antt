@@ -33,7 +33,6 @@ ready-live r e = record {
   within = r .within e;
   most = r .most;
   ample = r .ample;
-  low = r .low;
   rows = r .rows;
   report = r .report;
 }
@@ -64,7 +63,6 @@ visited-same node sweep g z e f = record {
   place = λ j. refl;
   lens = λ j ne. refl;
   cells-long = refl;
-  store-long = refl;
   report-long = refl;
   paid = λ q. omega arith;
   flat = λ q. omega arith;
@@ -160,7 +158,6 @@ module _ (key : ℕ) (s : Separators) (pick : Text → Option Action) (g : Label
           place = d .out .place;
           lens = d .out .lens;
           cells-long = d .out .cells-long;
-          store-long = d .out .store-long;
           report-long = d .out .report-long;
           paid = λ q. rw (live-length cells i (w .live)) (d .out .paid);
           flat = λ q. clash (sym q);

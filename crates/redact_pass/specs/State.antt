@@ -3,7 +3,7 @@ use mathlib.Core.Path.{_≡_}
 use mathlib.Core.Bool.{Bool, true, false}
 use mathlib.Core.List.{List}
 use Prim.Native.Nat.{ℕ, _+_, _-_, _*_, _≤_, _<_, _^_}
-use lib.ListN.{length}
+use lib.ListN.{length, set}
 use Rattle.text.specs.Text.{Text, part}
 use Rattle.run_model.specs.Redact.{Fate, after, Row, Event, changing, Known, Book, running, stopped, bookAll, printRow}
 use Rattle.redact_act.specs.Known.{knownFrom, GoodKnown, ActionsHeld}
@@ -31,8 +31,7 @@ pub record Ready (cells : List ℕ) (store : Text) (n i : ℕ) (c : Counters) : 
   pub good : Good cells store n (c .used)
   pub within : cell cells i 3 ≡ 0 → cell cells i 2 ≤ c .size
   pub most : c .size ≤ 49152
-  pub ample : c .used + 49152 ≤ length store
-  pub low : c .used ≤ 2 ^ 32
+  pub ample : c .used ≤ 98304
   pub rows : c .rows ≤ 2 ^ 32
   pub report : c .«report_len» ≤ 2 ^ 48
 
@@ -43,10 +42,14 @@ pub record Roomy (cells : List ℕ) (store : Text) (n i : ℕ) (c : Counters) : 
   pub live : cell cells i 3 ≡ 0
   pub within : cell cells i 2 ≤ c .size
   pub most : c .size ≤ 49152
-  pub ample : c .used + 49152 ≤ length store
-  pub low : c .used ≤ 2 ^ 32
+  pub ample : c .used ≤ 98304
   pub rows : c .rows ≤ 2 ^ 32
   pub report : c .«report_len» ≤ 2 ^ 48
+
+-- leaf i is named
+pub record Marked (named : List Bool) (i : ℕ) (named′ : List Bool) : Type 0 where
+  pub inside : i < length named
+  pub is : named′ ≡ set named i true
 
 -- leaf i, of which `went` bytes went and `came` bytes came, was entered in the table and in the report
 pub record Entered (ρ : Row) (i went came : ℕ) (cells : List ℕ) (report : Text) (c : Counters) (cells′ : List ℕ) (report′ : Text) (c′ : Counters) : Type 0 where
@@ -68,7 +71,6 @@ pub record Changed (F : Fate) (ρ : Row) (n i : ℕ) (cells : List ℕ) (store r
   pub place : (j : ℕ) → placeAt cells′ j ≡ placeAt cells j
   pub lens : (j : ℕ) → (j ≡ i → ⊥) → liveLen cells′ j ≡ liveLen cells j
   pub cells-long : length cells′ ≡ length cells
-  pub store-long : length store′ ≡ length store
   pub report-long : length report′ ≡ length report
   pub paid : c′ .used + c .size ≤ c .used + c′ .size + cell cells i 2
   pub grows : c .used ≤ c′ .used
@@ -119,13 +121,12 @@ pub record Learning (es : List Event) (sweep : Bool) (text bytes : Text) (known 
 
 -- The store has room for all that the pass may still write, and rows and report have room to be counted. A pass that acts on leaves
 -- may write a text for each, and all texts together are no longer than the message; one that collapses nodes writes two bytes for each.
-pub record Funded (node : Bool) (cells : List ℕ) (store : Text) (i n : ℕ) (c : Counters) : Type 0 where
-  pub sum : node ≡ false → c .used + liveSum cells i (n - i) + 98304 ≤ length store + c .size
-  pub flat : node ≡ true → c .used + 2 * (n - i) + 49152 ≤ length store
+pub record Funded (node : Bool) (cells : List ℕ) (i n : ℕ) (c : Counters) : Type 0 where
+  pub sum : node ≡ false → c .used + liveSum cells i (n - i) ≤ 49152 + c .size
+  pub flat : node ≡ true → c .used + 2 * (n - i) ≤ 98304
   pub within : node ≡ false → liveSum cells i (n - i) ≤ c .size
   pub texts : liveSum cells i (n - i) ≤ 49152
   pub most : c .size ≤ 49152
-  pub wide : length store ≤ 2 ^ 31
   pub few : c .rows + (n - i) ≤ 2 ^ 31
   pub report : c .«report_len» + (n - i) * 65536 ≤ 2 ^ 47
 
@@ -136,14 +137,13 @@ pub record NodeReady (cells : List ℕ) (store : Text) (n i end : ℕ) (c : Coun
   pub good : Good cells store n (c .used)
   pub texts : liveSum cells i (end - i) ≤ 49152
   pub most : c .size ≤ 49152
-  pub ample : c .used + 2 ≤ length store
-  pub low : c .used ≤ 2 ^ 32
+  pub ample : c .used ≤ 98304
   pub rows : c .rows ≤ 2 ^ 32
   pub report : c .«report_len» ≤ 2 ^ 48
 
 -- the text of leaf i, which has not vanished, may be learnt
-pub record Readable (cells : List ℕ) (store bytes : Text) (known : List ℕ) (i : ℕ) (c : Counters) : Type 0 where
+pub record Readable (cells : List ℕ) (bytes : Text) (known : List ℕ) (i : ℕ) (c : Counters) : Type 0 where
   pub row : i * 8 + 8 ≤ length cells
-  pub inside : cell cells i 1 + cell cells i 2 ≤ length store
+  pub inside : cell cells i 1 + cell cells i 2 ≤ 147456
   pub short : cell cells i 2 ≤ 49152
   pub good : GoodKnown bytes known (c .known) (c .«known_used»)

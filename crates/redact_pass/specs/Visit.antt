@@ -45,7 +45,6 @@ pub record Visited (P : Pass) (node sweep : Bool) (g : Label) (n end i : ℕ) (k
   pub place : (j : ℕ) → placeAt cells′ j ≡ placeAt cells j
   pub lens : (j : ℕ) → (j ≡ i → ⊥) → liveLen cells′ j ≡ liveLen cells j
   pub cells-long : length cells′ ≡ length cells
-  pub store-long : length store′ ≡ length store
   pub report-long : length report′ ≡ length report
   pub paid : node ≡ false → c′ .used + c .size ≤ c .used + c′ .size + liveLen cells i
   pub flat : node ≡ true → c′ .used ≤ c .used + 2
@@ -75,7 +74,6 @@ pub record RuleVisited (P : Pass) (node sweep : Bool) (g : Label) (n end i : ℕ
     (c : Counters) (named′ : List Bool) (cells′ : List ℕ) (store′ report′ bytes′ : Text) (known′ : List ℕ) (c′ : Counters) : Type 0 where
   pub visited : Visited P node sweep g n end i (knownNow text bytes known c) (knownNow text bytes′ known′ c′) (marked named) (marked named′) cells store report c cells′ store′ report′ c′
   pub held : KnownHeld text bytes′ known′ c′
-  pub named-long : length named′ ≡ length named
 
 abbrev pub RuleVisitedOr : Pass → Bool → Bool → Label → ℕ → ℕ → ℕ → Text → List Bool → List ℕ → Text → Text → Text → List ℕ → Counters → List Bool → List ℕ → Text → Text → Text → List ℕ → Done → Type 0
 RuleVisitedOr P node sweep g n end i text named cells store report bytes known c named′ cells′ store′ report′ bytes′ known′ (Going c′) =

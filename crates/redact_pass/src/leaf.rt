@@ -15,7 +15,7 @@ ghost use Rattle.er7_redact.specs.Action.{asAction, ActionHeld};
 ghost use Rattle.run_model.specs.Redact.{row};
 ghost use Rattle.run_model.specs.Redact as Redact;
 ghost use Rattle.redact_row.specs.Reach.{asLabel};
-ghost use Rattle.redact_pass.specs.State.{textOf, Roomy, Entered, ActedOn};
+ghost use Rattle.redact_pass.specs.State.{textOf, Roomy, Entered, Marked, ActedOn};
 
 // How far a run has come: rows and bytes of its report, the message's size, the bytes of the store that are used, the values that are known and their bytes.
 pub struct Counters {
@@ -41,6 +41,14 @@ pub fn less(a: usize, b: usize) -> usize
         return 0;
     }
     a - b
+}
+
+// Names leaf i.
+pub fn mark(named: &mut [bool], i: usize)
+    requires { ⌜ i < length (now named) ⌝ }
+    ensures { λ _. ⌜ Marked (now (named .entry)) i (now (named .exit)) ⌝ }
+{
+    named[i] = true;
 }
 
 // Leaf i, which had went bytes, has its new text of came bytes behind the last one in the store: its row of the table and its row of the report.
@@ -83,13 +91,13 @@ pub fn act_on(
     n: usize,
     i: usize,
     cells: &mut [usize],
-    store: &mut [u8],
+    store: &mut [u8; 147456],
     report: &mut [u8],
-    value: &mut [u8],
-    new: &mut [u8],
+    value: &mut [u8; 49152],
+    new: &mut [u8; 49152],
     c: Counters,
 ) -> Done
-    requires { ⌜ ActionHeld (now text) a × Roomy (now cells) (now store) n i c × (length (now text) ≤ 32768) × (49152 ≤ length (now value)) × (49152 ≤ length (now new)) ⌝ }
+    requires { ⌜ ActionHeld (now text) a × Roomy (now cells) (now store) n i c × (length (now text) ≤ 32768) ⌝ }
     ensures { λ r. ⌜ ActedOn (Redact.act key s (asAction (now (text .entry)) a) (textOf (now (cells .entry)) (now (store .entry)) i)) (row (asLabel g) p (asAction (now (text .entry)) a)) n i (now (cells .entry)) (now (store .entry)) (now (report .entry)) c (now (cells .exit)) (now (store .exit)) (now (report .exit)) r ⌝ }
 {
     let at = i * 8;

@@ -7,8 +7,6 @@ use redact_act::known::Learnt;
 use redact_act::known::learn_leaf;
 use refusal::Refusal;
 ghost use mathlib.Core.List.{[], _∷_};
-ghost use Prim.Native.Nat.{_≤_};
-ghost use lib.ListN.{length};
 ghost use Rattle.text.specs.Text.{Text};
 ghost use Rattle.er7_redact.specs.Action.{asAction, ActionHeld};
 ghost use Rattle.run_model.specs.Redact.{learning};
@@ -21,13 +19,13 @@ pub fn learn_at(
     sweep: bool,
     i: usize,
     cells: &[usize],
-    store: &[u8],
-    value: &mut [u8],
-    bytes: &mut [u8],
-    known: &mut [usize],
+    store: &[u8; 147456],
+    value: &mut [u8; 49152],
+    bytes: &mut [u8; 16384],
+    known: &mut [usize; 4096],
     c: Counters,
 ) -> Done
-    requires { ⌜ Readable (now cells) (now store) (now bytes) (now known) i c × (49152 ≤ length (now value)) ⌝ }
+    requires { ⌜ Readable (now cells) (now bytes) (now known) i c ⌝ }
     ensures { λ r. ⌜ ((text : Text) → ActionHeld text a → KnownHeld text (now (bytes .entry)) (now (known .entry)) c → Learning (learning s (asAction text a) (textOf (now (cells .entry)) (now (store .entry)) i ∷ [])) sweep text (now (bytes .entry)) (now (known .entry)) c (now (bytes .exit)) (now (known .exit)) r) ⌝ }
 {
     if !sweep {
@@ -36,10 +34,11 @@ pub fn learn_at(
     let at = i * 8;
     let start = cells[at + 1];
     let end = start + cells[at + 2];
+    let all = &store[..];
     match learn_leaf(
         a,
         s,
-        &store[start..end],
+        &all[start..end],
         value,
         bytes,
         known,

@@ -2,6 +2,7 @@
 use super::leaf::Counters;
 use super::leaf::Done;
 use super::leaf::act_on;
+use super::leaf::mark;
 use super::learn::learn_at;
 use er7::separators::Separators;
 use er7_redact::action::is_keep;
@@ -32,17 +33,17 @@ pub fn apply_leaf(
     text: &[u8],
     n: usize,
     i: usize,
-    named: &mut [bool],
+    named: &mut [bool; 4096],
     cells: &mut [usize],
-    store: &mut [u8],
+    store: &mut [u8; 147456],
     report: &mut [u8],
-    value: &mut [u8],
-    new: &mut [u8],
-    bytes: &mut [u8],
-    known: &mut [usize],
+    value: &mut [u8; 49152],
+    new: &mut [u8; 49152],
+    bytes: &mut [u8; 16384],
+    known: &mut [usize; 4096],
     c: Counters,
 ) -> Done
-    requires { ⌜ ActionHeld (now text) (rule .action) × (reach (asRule (now text) rule) ≡ each-leaf) × (reachesSegment (asPath (now text) (rule .path)) (asLabel g) ≡ true) × Ready (now cells) (now store) n i c × KnownHeld (now text) (now bytes) (now known) c × (length (now text) ≤ 32768) × (49152 ≤ length (now value)) × (49152 ≤ length (now new)) × (n ≤ length (now named)) ⌝ }
+    requires { ⌜ ActionHeld (now text) (rule .action) × (reach (asRule (now text) rule) ≡ each-leaf) × (reachesSegment (asPath (now text) (rule .path)) (asLabel g) ≡ true) × Ready (now cells) (now store) n i c × KnownHeld (now text) (now bytes) (now known) c × (length (now text) ≤ 32768) × (n ≤ 4096) ⌝ }
     ensures { λ r. ⌜ ((end : ℕ) → RuleVisitedOr (rulePass key s (asRule (now (text .entry)) rule)) false sweep (asLabel g) n end i (now (text .entry)) (now (named .entry)) (now (cells .entry)) (now (store .entry)) (now (report .entry)) (now (bytes .entry)) (now (known .entry)) c (now (named .exit)) (now (cells .exit)) (now (store .exit)) (now (report .exit)) (now (bytes .exit)) (now (known .exit)) r) ⌝ }
 {
     let at = i * 8;
@@ -55,7 +56,7 @@ pub fn apply_leaf(
         return Done::Going(c);
     }
     let a = rule.action;
-    named[i] = true;
+    mark(named, i);
     if is_keep(a) {
         return Done::Going(c);
     }

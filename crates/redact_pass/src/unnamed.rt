@@ -32,13 +32,13 @@ pub fn reject_leaf(
     i: usize,
     named: bool,
     cells: &mut [usize],
-    store: &mut [u8],
+    store: &mut [u8; 147456],
     report: &mut [u8],
-    value: &mut [u8],
-    new: &mut [u8],
+    value: &mut [u8; 49152],
+    new: &mut [u8; 49152],
     c: Counters,
 ) -> Done
-    requires { ⌜ ActionHeld (now text) a × Ready (now cells) (now store) n i c × (length (now text) ≤ 32768) × (49152 ≤ length (now value)) × (49152 ≤ length (now new)) ⌝ }
+    requires { ⌜ ActionHeld (now text) a × Ready (now cells) (now store) n i c × (length (now text) ≤ 32768) ⌝ }
     ensures { λ r. ⌜ ((sweep : Bool) (end : ℕ) (ks : List Known) (m : ℕ → Bool) → m i ≡ named → UnnamedVisitedOr (unnamedPass key s (forPosture (reject (asAction (now (text .entry)) a)))) sweep (asLabel g) n end i ks m (now (cells .entry)) (now (store .entry)) (now (report .entry)) c (now (cells .exit)) (now (store .exit)) (now (report .exit)) r) ⌝ }
 {
     let at = i * 8;
@@ -77,15 +77,15 @@ pub fn sweep_leaf(
     i: usize,
     was: bool,
     cells: &mut [usize],
-    store: &mut [u8],
+    store: &mut [u8; 147456],
     report: &mut [u8],
-    value: &mut [u8],
-    new: &mut [u8],
-    bytes: &[u8],
-    known: &[usize],
+    value: &mut [u8; 49152],
+    new: &mut [u8; 49152],
+    bytes: &[u8; 16384],
+    known: &[usize; 4096],
     c: Counters,
 ) -> Done
-    requires { ⌜ KnownHeld (now text) (now bytes) (now known) c × Ready (now cells) (now store) n i c × (length (now text) ≤ 32768) × (49152 ≤ length (now value)) × (49152 ≤ length (now new)) ⌝ }
+    requires { ⌜ KnownHeld (now text) (now bytes) (now known) c × Ready (now cells) (now store) n i c × (length (now text) ≤ 32768) ⌝ }
     ensures { λ r. ⌜ ((sweep : Bool) (end : ℕ) (ks : List Known) (m : ℕ → Bool) → m i ≡ was → UnnamedVisitedOr (unnamedPass key s (forSweep s (knownNow (now (text .entry)) (now (bytes .entry)) (now (known .entry)) c))) sweep (asLabel g) n end i ks m (now (cells .entry)) (now (store .entry)) (now (report .entry)) c (now (cells .exit)) (now (store .exit)) (now (report .exit)) r) ⌝ }
 {
     let at = i * 8;
@@ -99,7 +99,8 @@ pub fn sweep_leaf(
         return Done::Going(c);
     }
     let end = start + len;
-    let row = for_sweep(s, &store[start..end], value, bytes, known, c.known);
+    let all = &store[..];
+    let row = for_sweep(s, &all[start..end], value, bytes, known, c.known);
     if row == c.known {
         return Done::Going(c);
     }

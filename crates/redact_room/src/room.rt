@@ -1,8 +1,7 @@
 // Room in the store for the texts that a turn of a run may write.
 use er7_render::store::compact;
 use redact_pass::leaf::Counters;
-ghost use Prim.Native.Nat.{_≤_, _^_};
-ghost use lib.ListN.{length};
+ghost use Prim.Native.Nat.{_≤_};
 ghost use Rattle.er7_table.specs.Table.{Good};
 ghost use Rattle.er7_render.specs.Stored.{liveSum};
 ghost use Rattle.redact_room.specs.Room.{RoomMade};
@@ -12,14 +11,14 @@ ghost use Rattle.redact_room.specs.Room.{RoomMade};
 pub fn make_room(
     n: usize,
     cells: &mut [usize],
-    store: &mut [u8],
-    spare: &mut [u8],
+    store: &mut [u8; 147456],
+    spare: &mut [u8; 49152],
     c: Counters,
 ) -> Counters
-    requires { ⌜ Good (now cells) (now store) n (c .used) × (liveSum (now cells) 0 n ≤ 49152) × (147456 ≤ length (now store)) × (length (now store) ≤ 2 ^ 31) × (49152 ≤ length (now spare)) ⌝ }
+    requires { ⌜ Good (now cells) (now store) n (c .used) × (liveSum (now cells) 0 n ≤ 49152) ⌝ }
     ensures { λ r. ⌜ RoomMade n (now (cells .entry)) (now (store .entry)) c (now (cells .exit)) (now (store .exit)) r ⌝ }
 {
-    if c.used + 98304 <= store.len() {
+    if c.used <= 49152 {
         return c;
     }
     let used = compact(n, cells, store, spare, c.used);

@@ -64,7 +64,7 @@ module _ (text : Text) (n : ℕ) (named : List Bool) (report bytes : Text) (know
   }
 
   room-kept : Kept (buffers named cells store report bytes known) (buffers named cells′ store′ report bytes known)
-  room-kept = record { place = w .place; cells = w .cells-long; store = w .store-long; report = refl; named = refl }
+  room-kept = record { place = w .place; cells = w .cells-long; report = refl }
 
   module _ (key : ℕ) (s : Separators) (turn : Turn) (sweep : Bool) (segs : List ℕ) (m : ℕ) (z : Segmented segs m n) (β : Buffers) where
     abbrev β₀ : Buffers
@@ -106,6 +106,6 @@ room-ordered {segs} {m} {n} {cells} {cells′} {store} {store′} z w a = record
 }
 
 -- the room that a turn asks for
-pub lent-funded : {text : Text} {segs : List ℕ} {m n : ℕ} {store value new : Text} → Lent text segs m n store value new → {named : List Bool} {report bytes : Text} {known cells cells′ : List ℕ} {store′ : Text} {c c′ : Counters}
-    → RoomMade n cells store c cells′ store′ c′ → Poised text segs m n (buffers named cells store report bytes known) c → (node : Bool) → Funded node cells′ store′ 0 n c′
-lent-funded l w p node = room-funded w (p .live) (p .most) (l .leaves) (p .rows) (p .report) (l .narrow) node
+pub lent-funded : {text : Text} {segs : List ℕ} {m n : ℕ} → Lent text segs m n → {named : List Bool} {store report bytes : Text} {known cells cells′ : List ℕ} {store′ : Text} {c c′ : Counters}
+    → RoomMade n cells store c cells′ store′ c′ → Poised text segs m n (buffers named cells store report bytes known) c → (node : Bool) → Funded node cells′ 0 n c′
+lent-funded l w p node = room-funded w (p .live) (p .most) (l .leaves) (p .rows) (p .report) node

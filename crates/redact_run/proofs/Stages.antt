@@ -222,17 +222,3 @@ pass-going g e = (rw e at g) .out
 
 pub poised-going : (text : Text) (segs : List ℕ) (m n : ℕ) (β : Buffers) (r : Done) (c : Counters) → PoisedOr text segs m n β r → r ≡ Going c → Poised text segs m n β c
 poised-going text segs m n β r c g e = subst (PoisedOr text segs m n β) e g
-
--- the other buffers keep their lengths
-pub lent-kept : {text : Text} {segs : List ℕ} {m n : ℕ} {store value new store′ value′ new′ : Text} → Lent text segs m n store value new → length store′ ≡ length store → length value′ ≡ length value
-    → length new′ ≡ length new → Lent text segs m n store′ value′ new′
-lent-kept l s v w = record {
-  policy = l .policy;
-  named = l .named;
-  segmented = l .segmented;
-  leaves = l .leaves;
-  wide = omega (arith, l .wide);
-  narrow = omega (arith, l .narrow);
-  value-room = omega (arith, l .value-room);
-  new-room = omega (arith, l .new-room);
-}

@@ -6,7 +6,7 @@ use Prim.Native.Nat.{ℕ, zero, suc, _-_, _≤_}
 use native.Mathlib.Numerals.{add-one}
 use native.Mathlib.Omega.{arith}
 use borrow.Author.Tests.{ltb-false}
-use lib.ListN.{length, replicate, getD, take, length-replicate}
+use lib.ListN.{length, replicate, getD, take}
 use Rattle.text.specs.Text.{Text, part, Wrote}
 use Rattle.text.proofs.Writes.{wrote-length}
 use Rattle.refusal.specs.Refusal.{tooLong}
@@ -17,7 +17,7 @@ use Rattle.message_model.proofs.Messages.{message-chains}
 use Rattle.message_model.proofs.PrintBack.{message-prints}
 use Rattle.policy_model.specs.Policy.{Policy}
 use Rattle.run_model.specs.Redact as R
-use Rattle.run_model.specs.Redact.{Book, running, knownIn, bookAll, overSegments, segmentsEvents, unnamedLeaf, unnamedEvents, afterRules, rulesEvents, forPosture, forSweep, beforeSweep, eventsBeforeSweep, bookBeforeSweep, redactedAs, swept, redact}
+use Rattle.run_model.specs.Redact.{Book, running, knownIn, bookAll, overSegments, segmentsEvents, unnamedLeaf, unnamedEvents, afterRules, rulesEvents, forPosture, forSweep, beforeSweep, eventsBeforeSweep, bookBeforeSweep, redactedAs, swept, redactFrom, redact}
 use Rattle.run_model.proofs.Chains.{message-fields-first}
 use Rattle.er7_table.specs.Table.{firstLeaf, labelAt, segmentAt, segmentsFrom, leavesFrom}
 use Rattle.er7_table.proofs.Laws.{list-ext, segments-named}
@@ -68,14 +68,14 @@ marks-clear i = clear 4096 i
 abbrev pub started : ℕ → Counters
 started used = record { rows = 0; «report_len» = 0; size = used; used = used; known = 0; «known_used» = 0 }
 
-module _ {message policy : Text} {counts : Counts} {segs cells : List ℕ} {store value new bytes : Text} {known : List ℕ} (w : Loaded message policy counts segs cells store value new bytes known)
+module _ {message policy : Text} {counts : Counts} {segs cells : List ℕ} (w : Loaded message policy counts segs cells)
   where
     pub message-room : length message ≤ 32768
     unfolding tooLong
     message-room = ltb-false 32768 (length message) (faultless message (w .no-fault) .not-too-long)
 
-module _ {message policy : Text} {counts : Counts} {segs cells : List ℕ} {store value new bytes : Text} {known : List ℕ} (w : Loaded message policy counts segs cells store value new bytes known)
-    {store′ : Text} {used : ℕ} (p : Wrote store 0 message store′ used) (report : Text) where
+module _ {message policy : Text} {counts : Counts} {segs cells : List ℕ} (w : Loaded message policy counts segs cells)
+    {store store′ : Text} {used : ℕ} (p : Wrote store 0 message store′ used) (report bytes : Text) (known : List ℕ) where
   front : take (length message) store′ ≡ message
   unfolding part
   front = wrote-part p
@@ -103,9 +103,7 @@ module _ {message policy : Text} {counts : Counts} {segs cells : List ℕ} {stor
   unfolding knownFrom R.knownBytes
   first-known = record {
     few = omega arith;
-    long = w .known-room;
     within = omega arith;
-    wide = w .bytes-room;
     slots = λ i h. absurd (omega arith);
     sum = refl;
   }
@@ -122,23 +120,18 @@ module _ {message policy : Text} {counts : Counts} {segs cells : List ℕ} {stor
     held = record {
       good = record { rows = w .standing .good .rows; room = omega (arith, wrote-length p, p .high); ends = λ i h. omega (arith, w .standing .good .ends i h, p .end) };
       known = record { good = first-known; held = record { held = λ i h. absurd (omega arith) } };
-      marks = omega (arith, length-replicate {A = Bool} 4096 false, w .standing .at-most-4096);
+      marks = w .standing .at-most-4096;
     };
     rows = omega arith;
     report = omega arith;
   }
 
-pub run-lent : {message policy : Text} {counts : Counts} {segs cells : List ℕ} {store value new bytes : Text} {known : List ℕ} → Loaded message policy counts segs cells store value new bytes known → {store′ : Text} {used : ℕ}
-    → Wrote store 0 message store′ used → Lent policy segs (counts .segments) (counts .leaves) store′ value new
-run-lent w p = record {
+pub run-lent : {message policy : Text} {counts : Counts} {segs cells : List ℕ} → Loaded message policy counts segs cells → Lent policy segs (counts .segments) (counts .leaves)
+run-lent w = record {
   policy = w .policy-short;
   named = w .named;
   segmented = w .standing .segmented;
   leaves = w .standing .at-most-4096;
-  wide = omega (arith, wrote-length p, w .wide);
-  narrow = omega (arith, wrote-length p, w .narrow);
-  value-room = w .value-room;
-  new-room = w .new-room;
 }
 
 -- ---- the end
@@ -147,7 +140,7 @@ module _ (key : ℕ) (P : Policy) (s : Separators) (cr : Bool) (ss : List Segmen
   abbrev b₀ : Book
   b₀ = running [] [] (length (printSegments s cr ss))
 
-  before-book : bookAll (P .sweep) (segmentsEvents (unnamedEvents key s (forPosture (P .posture))) (afterRules key s (P .rules) ss)) (bookAll (P .sweep) (rulesEvents key s (P .rules) ss) b₀) ≡ bookBeforeSweep key s P cr ss
+  before-book : bookAll (P .sweep) (segmentsEvents (unnamedEvents key s (forPosture (P .posture))) (afterRules key s (P .rules) ss)) (bookAll (P .sweep) (rulesEvents key s (P .rules) ss) b₀) ≡ bookBeforeSweep (length (printSegments s cr ss)) key s P ss
   unfolding bookBeforeSweep eventsBeforeSweep
   before-book = sym (book-append (P .sweep) (rulesEvents key s (P .rules) ss) (segmentsEvents (unnamedEvents key s (forPosture (P .posture))) (afterRules key s (P .rules) ss)) b₀)
 
@@ -163,14 +156,14 @@ module _ (key : ℕ) (P : Policy) (s : Separators) (cr : Bool) (ss : List Segmen
   abbrev b₃ : Book
   b₃ = bookAll (P .sweep) (segmentsEvents (unnamedEvents key s (forSweep s (knownIn b₂))) ss₂) b₂
 
-  run-is : swept key s P cr (knownIn (bookBeforeSweep key s P cr ss)) (bookBeforeSweep key s P cr ss) (beforeSweep key s P ss) ≡ redactedAs s cr b₃ ss₃
+  run-is : swept key s P cr (knownIn (bookBeforeSweep (length (printSegments s cr ss)) key s P ss)) (bookBeforeSweep (length (printSegments s cr ss)) key s P ss) (beforeSweep key s P ss) ≡ redactedAs s cr b₃ ss₃
   unfolding swept beforeSweep
   run-is = rw (← before-book)
 
 module _ (key : ℕ) (P : Policy) (message : Text) (counts : Counts) (w : counts .separators ≡ messageOf message .separators) (v : counts .«last_cr» ≡ messageOf message .lastCR) where
   redact-is : redact key P (messageOf message)
       ≡ redactedAs (counts .separators) (counts .«last_cr») (b₃ key P (counts .separators) (counts .«last_cr») (messageOf message .segments)) (ss₃ key P (counts .separators) (counts .«last_cr») (messageOf message .segments))
-  unfolding redact
+  unfolding redact redactFrom printMessage
   redact-is = rw (w, v) (run-is key P (messageOf message .separators) (messageOf message .lastCR) (messageOf message .segments))
 
   module _ (text : Text) (segs : List ℕ) (named : List Bool) (cells : List ℕ) (store report bytes : Text) (known : List ℕ) where

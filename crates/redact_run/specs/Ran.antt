@@ -19,17 +19,11 @@ use Rattle.redact_pass.specs.declared.leaf.Done.{Done}
 use Rattle.redact_pass.specs.declared.leaf.Done.the-variants.{Going, Stopped}
 
 -- a message without fault, its tables, and buffers that are long enough
-pub record Loaded (message policy : Text) (counts : Counts) (segs cells : List ℕ) (store value new bytes : Text) (known : List ℕ) : Type 0 where
+pub record Loaded (message policy : Text) (counts : Counts) (segs cells : List ℕ) : Type 0 where
   pub no-fault : messageFault message ≡ none
   pub standing : Standing message (messageOf message) segs cells counts
   pub named : AllNamed segs (counts .segments)
   pub policy-short : length policy ≤ 32768
-  pub wide : 147456 ≤ length store
-  pub narrow : length store ≤ 2 ^ 31
-  pub value-room : 49152 ≤ length value
-  pub new-room : 49152 ≤ length new
-  pub bytes-room : 16384 ≤ length bytes
-  pub known-room : 4096 ≤ length known
 
 -- the tables print as the redacted text, and the report holds its rows
 pub record Ran (key : ℕ) (P : Policy) (message : Text) (counts : Counts) (segs cells : List ℕ) (store report : Text) (c : Counters) : Type 0 where

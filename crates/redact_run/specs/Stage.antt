@@ -67,15 +67,11 @@ PoisedOr text segs m n β (Going c) = Poised text segs m n β c
 PoisedOr text segs m n β (Stopped e) = Unit {0}
 
 -- what a run asks of its other buffers
-pub record Lent (text : Text) (segs : List ℕ) (m n : ℕ) (store value new : Text) : Type 0 where
+pub record Lent (text : Text) (segs : List ℕ) (m n : ℕ) : Type 0 where
   pub policy : length text ≤ 32768
   pub named : AllNamed segs m
   pub segmented : Segmented segs m n
   pub leaves : n ≤ 4096
-  pub wide : 147456 ≤ length store
-  pub narrow : length store ≤ 2 ^ 31
-  pub value-room : 49152 ≤ length value
-  pub new-room : 49152 ≤ length new
 
 -- the turn of a pass was taken
 pub record TurnTaken (P : Pass) (sweep : Bool) (segs : List ℕ) (m n : ℕ) (text : Text) (β₀ : Buffers) (c₀ : Counters) (β : Buffers) (r : Done) : Type 0 where

@@ -53,17 +53,17 @@ fn turn_once(
     sweep: bool,
     text: &[u8],
     segs: &[usize],
-    named: &mut [bool],
+    named: &mut [bool; 4096],
     cells: &mut [usize],
-    store: &mut [u8],
+    store: &mut [u8; 147456],
     report: &mut [u8],
-    value: &mut [u8],
-    new: &mut [u8],
-    bytes: &mut [u8],
-    known: &mut [usize],
+    value: &mut [u8; 49152],
+    new: &mut [u8; 49152],
+    bytes: &mut [u8; 16384],
+    known: &mut [usize; 4096],
     c0: Counters,
 ) -> Done
-    requires { ⌜ TurnHeld (now text) turn × Lent (now text) (now segs) (counts .segments) (counts .leaves) (now store) (now value) (now new) × Poised (now text) (now segs) (counts .segments) (counts .leaves) (buffers (now named) (now cells) (now store) (now report) (now bytes) (now known)) c0 ⌝ }
+    requires { ⌜ TurnHeld (now text) turn × Lent (now text) (now segs) (counts .segments) (counts .leaves) × Poised (now text) (now segs) (counts .segments) (counts .leaves) (buffers (now named) (now cells) (now store) (now report) (now bytes) (now known)) c0 ⌝ }
     ensures { λ r. ⌜ TurnTaken (passOf key (counts .separators) (now (text .entry)) (knowing (now (text .entry)) (buffers (now (named .entry)) (now (cells .entry)) (now (store .entry)) (now (report .entry)) (now (bytes .entry)) (now (known .entry))) c0) turn) sweep (now (segs .entry)) (counts .segments) (counts .leaves) (now (text .entry)) (buffers (now (named .entry)) (now (cells .entry)) (now (store .entry)) (now (report .entry)) (now (bytes .entry)) (now (known .entry))) c0 (buffers (now (named .exit)) (now (cells .exit)) (now (store .exit)) (now (report .exit)) (now (bytes .exit)) (now (known .exit))) r ⌝ }
 {
     let n = counts.leaves;
@@ -97,17 +97,17 @@ fn next(
     sweep: bool,
     text: &[u8],
     segs: &[usize],
-    named: &mut [bool],
+    named: &mut [bool; 4096],
     cells: &mut [usize],
-    store: &mut [u8],
+    store: &mut [u8; 147456],
     report: &mut [u8],
-    value: &mut [u8],
-    new: &mut [u8],
-    bytes: &mut [u8],
-    known: &mut [usize],
+    value: &mut [u8; 49152],
+    new: &mut [u8; 49152],
+    bytes: &mut [u8; 16384],
+    known: &mut [usize; 4096],
     done: Done,
 ) -> Done
-    requires { ⌜ TurnHeld (now text) turn × Lent (now text) (now segs) (counts .segments) (counts .leaves) (now store) (now value) (now new) × PoisedOr (now text) (now segs) (counts .segments) (counts .leaves) (buffers (now named) (now cells) (now store) (now report) (now bytes) (now known)) done ⌝ }
+    requires { ⌜ TurnHeld (now text) turn × Lent (now text) (now segs) (counts .segments) (counts .leaves) × PoisedOr (now text) (now segs) (counts .segments) (counts .leaves) (buffers (now named) (now cells) (now store) (now report) (now bytes) (now known)) done ⌝ }
     ensures { λ r. ⌜ ((cr : Bool) (turns : ℕ) (ss : List Segment) (b : Book) (P : Pass) → PassIs key (counts .separators) (now (text .entry)) turn (buffers (now (named .entry)) (now (cells .entry)) (now (store .entry)) (now (report .entry)) (now (bytes .entry)) (now (known .entry))) done P → Stands (counts .separators) cr (now (text .entry)) (now (segs .entry)) (counts .segments) (counts .leaves) turns ss b (buffers (now (named .entry)) (now (cells .entry)) (now (store .entry)) (now (report .entry)) (now (bytes .entry)) (now (known .entry))) done → Stands (counts .separators) cr (now (text .entry)) (now (segs .entry)) (counts .segments) (counts .leaves) (turns + 1) (overSegments (P .leaf) ss) (bookAll sweep (segmentsEvents (P .says) ss) b) (buffers (now (named .exit)) (now (cells .exit)) (now (store .exit)) (now (report .exit)) (now (bytes .exit)) (now (known .exit))) r) ⌝ }
 {
     match done {
@@ -141,15 +141,15 @@ fn run_rules(
     text: &[u8],
     segs: &[usize],
     cells: &mut [usize],
-    store: &mut [u8],
+    store: &mut [u8; 147456],
     report: &mut [u8],
-    value: &mut [u8],
-    new: &mut [u8],
-    bytes: &mut [u8],
-    known: &mut [usize],
+    value: &mut [u8; 49152],
+    new: &mut [u8; 49152],
+    bytes: &mut [u8; 16384],
+    known: &mut [usize; 4096],
 ) -> Run
-    requires { ⌜ (length (run .named) ≡ 4096) × PolicyHeld (now text) policy × Lent (now text) (now segs) (counts .segments) (counts .leaves) (now store) (now value) (now new) × Begun (counts .separators) (counts .«last_cr») (now text) (now segs) (counts .segments) (counts .leaves) 0 (buffers (run .named) (now cells) (now store) (now report) (now bytes) (now known)) (run .done) ⌝ }
-    ensures { λ r. ⌜ (length (r .named) ≡ 4096) × ((ss : List Segment) (b : Book) → Stands (counts .separators) (counts .«last_cr») (now (text .entry)) (now (segs .entry)) (counts .segments) (counts .leaves) 0 ss b (buffers (run .named) (now (cells .entry)) (now (store .entry)) (now (report .entry)) (now (bytes .entry)) (now (known .entry))) (run .done) → Stands (counts .separators) (counts .«last_cr») (now (text .entry)) (now (segs .entry)) (counts .segments) (counts .leaves) 128 (afterRules key (counts .separators) (asRules (now (text .entry)) (policy .rules) (policy .count)) ss) (bookAll (policy .sweep) (rulesEvents key (counts .separators) (asRules (now (text .entry)) (policy .rules) (policy .count)) ss) b) (buffers (r .named) (now (cells .exit)) (now (store .exit)) (now (report .exit)) (now (bytes .exit)) (now (known .exit))) (r .done)) ⌝ }
+    requires { ⌜ PolicyHeld (now text) policy × Lent (now text) (now segs) (counts .segments) (counts .leaves) × Begun (counts .separators) (counts .«last_cr») (now text) (now segs) (counts .segments) (counts .leaves) 0 (buffers (run .named) (now cells) (now store) (now report) (now bytes) (now known)) (run .done) ⌝ }
+    ensures { λ r. ⌜ ((ss : List Segment) (b : Book) → Stands (counts .separators) (counts .«last_cr») (now (text .entry)) (now (segs .entry)) (counts .segments) (counts .leaves) 0 ss b (buffers (run .named) (now (cells .entry)) (now (store .entry)) (now (report .entry)) (now (bytes .entry)) (now (known .entry))) (run .done) → Stands (counts .separators) (counts .«last_cr») (now (text .entry)) (now (segs .entry)) (counts .segments) (counts .leaves) 128 (afterRules key (counts .separators) (asRules (now (text .entry)) (policy .rules) (policy .count)) ss) (bookAll (policy .sweep) (rulesEvents key (counts .separators) (asRules (now (text .entry)) (policy .rules) (policy .count)) ss) b) (buffers (r .named) (now (cells .exit)) (now (store .exit)) (now (report .exit)) (now (bytes .exit)) (now (known .exit))) (r .done)) ⌝ }
 {
     let mut named = run.named;
     let mut done = run.done;
@@ -189,15 +189,15 @@ fn run_turn(
     text: &[u8],
     segs: &[usize],
     cells: &mut [usize],
-    store: &mut [u8],
+    store: &mut [u8; 147456],
     report: &mut [u8],
-    value: &mut [u8],
-    new: &mut [u8],
-    bytes: &mut [u8],
-    known: &mut [usize],
+    value: &mut [u8; 49152],
+    new: &mut [u8; 49152],
+    bytes: &mut [u8; 16384],
+    known: &mut [usize; 4096],
 ) -> Run
-    requires { ⌜ (length (run .named) ≡ 4096) × TurnHeld (now text) turn × Lent (now text) (now segs) (counts .segments) (counts .leaves) (now store) (now value) (now new) × PoisedOr (now text) (now segs) (counts .segments) (counts .leaves) (buffers (run .named) (now cells) (now store) (now report) (now bytes) (now known)) (run .done) ⌝ }
-    ensures { λ r. ⌜ (length (r .named) ≡ 4096) × ((cr : Bool) (turns : ℕ) (ss : List Segment) (b : Book) (P : Pass) → PassIs key (counts .separators) (now (text .entry)) turn (buffers (run .named) (now (cells .entry)) (now (store .entry)) (now (report .entry)) (now (bytes .entry)) (now (known .entry))) (run .done) P → Stands (counts .separators) cr (now (text .entry)) (now (segs .entry)) (counts .segments) (counts .leaves) turns ss b (buffers (run .named) (now (cells .entry)) (now (store .entry)) (now (report .entry)) (now (bytes .entry)) (now (known .entry))) (run .done) → Stands (counts .separators) cr (now (text .entry)) (now (segs .entry)) (counts .segments) (counts .leaves) (turns + 1) (overSegments (P .leaf) ss) (bookAll sweep (segmentsEvents (P .says) ss) b) (buffers (r .named) (now (cells .exit)) (now (store .exit)) (now (report .exit)) (now (bytes .exit)) (now (known .exit))) (r .done)) ⌝ }
+    requires { ⌜ TurnHeld (now text) turn × Lent (now text) (now segs) (counts .segments) (counts .leaves) × PoisedOr (now text) (now segs) (counts .segments) (counts .leaves) (buffers (run .named) (now cells) (now store) (now report) (now bytes) (now known)) (run .done) ⌝ }
+    ensures { λ r. ⌜ ((cr : Bool) (turns : ℕ) (ss : List Segment) (b : Book) (P : Pass) → PassIs key (counts .separators) (now (text .entry)) turn (buffers (run .named) (now (cells .entry)) (now (store .entry)) (now (report .entry)) (now (bytes .entry)) (now (known .entry))) (run .done) P → Stands (counts .separators) cr (now (text .entry)) (now (segs .entry)) (counts .segments) (counts .leaves) turns ss b (buffers (run .named) (now (cells .entry)) (now (store .entry)) (now (report .entry)) (now (bytes .entry)) (now (known .entry))) (run .done) → Stands (counts .separators) cr (now (text .entry)) (now (segs .entry)) (counts .segments) (counts .leaves) (turns + 1) (overSegments (P .leaf) ss) (bookAll sweep (segmentsEvents (P .says) ss) b) (buffers (r .named) (now (cells .exit)) (now (store .exit)) (now (report .exit)) (now (bytes .exit)) (now (known .exit))) (r .done)) ⌝ }
 {
     let mut named = run.named;
     let before = run.done;
@@ -231,15 +231,15 @@ fn run_posture(
     text: &[u8],
     segs: &[usize],
     cells: &mut [usize],
-    store: &mut [u8],
+    store: &mut [u8; 147456],
     report: &mut [u8],
-    value: &mut [u8],
-    new: &mut [u8],
-    bytes: &mut [u8],
-    known: &mut [usize],
+    value: &mut [u8; 49152],
+    new: &mut [u8; 49152],
+    bytes: &mut [u8; 16384],
+    known: &mut [usize; 4096],
 ) -> Run
-    requires { ⌜ (length (run .named) ≡ 4096) × PostureHeld (now text) posture × Lent (now text) (now segs) (counts .segments) (counts .leaves) (now store) (now value) (now new) × Begun (counts .separators) (counts .«last_cr») (now text) (now segs) (counts .segments) (counts .leaves) 128 (buffers (run .named) (now cells) (now store) (now report) (now bytes) (now known)) (run .done) ⌝ }
-    ensures { λ r. ⌜ (length (r .named) ≡ 4096) × ((ss : List Segment) (b : Book) → Stands (counts .separators) (counts .«last_cr») (now (text .entry)) (now (segs .entry)) (counts .segments) (counts .leaves) 128 ss b (buffers (run .named) (now (cells .entry)) (now (store .entry)) (now (report .entry)) (now (bytes .entry)) (now (known .entry))) (run .done) → Stands (counts .separators) (counts .«last_cr») (now (text .entry)) (now (segs .entry)) (counts .segments) (counts .leaves) 129 (overSegments (unnamedLeaf key (counts .separators) (forPosture (asPosture (now (text .entry)) posture))) ss) (bookAll sweep (segmentsEvents (unnamedEvents key (counts .separators) (forPosture (asPosture (now (text .entry)) posture))) ss) b) (buffers (r .named) (now (cells .exit)) (now (store .exit)) (now (report .exit)) (now (bytes .exit)) (now (known .exit))) (r .done)) ⌝ }
+    requires { ⌜ PostureHeld (now text) posture × Lent (now text) (now segs) (counts .segments) (counts .leaves) × Begun (counts .separators) (counts .«last_cr») (now text) (now segs) (counts .segments) (counts .leaves) 128 (buffers (run .named) (now cells) (now store) (now report) (now bytes) (now known)) (run .done) ⌝ }
+    ensures { λ r. ⌜ ((ss : List Segment) (b : Book) → Stands (counts .separators) (counts .«last_cr») (now (text .entry)) (now (segs .entry)) (counts .segments) (counts .leaves) 128 ss b (buffers (run .named) (now (cells .entry)) (now (store .entry)) (now (report .entry)) (now (bytes .entry)) (now (known .entry))) (run .done) → Stands (counts .separators) (counts .«last_cr») (now (text .entry)) (now (segs .entry)) (counts .segments) (counts .leaves) 129 (overSegments (unnamedLeaf key (counts .separators) (forPosture (asPosture (now (text .entry)) posture))) ss) (bookAll sweep (segmentsEvents (unnamedEvents key (counts .separators) (forPosture (asPosture (now (text .entry)) posture))) ss) b) (buffers (r .named) (now (cells .exit)) (now (store .exit)) (now (report .exit)) (now (bytes .exit)) (now (known .exit))) (r .done)) ⌝ }
 {
     match posture {
         Posture::Accept => run,
@@ -281,14 +281,14 @@ fn run_sweep(
     text: &[u8],
     segs: &[usize],
     cells: &mut [usize],
-    store: &mut [u8],
+    store: &mut [u8; 147456],
     report: &mut [u8],
-    value: &mut [u8],
-    new: &mut [u8],
-    bytes: &mut [u8],
-    known: &mut [usize],
+    value: &mut [u8; 49152],
+    new: &mut [u8; 49152],
+    bytes: &mut [u8; 16384],
+    known: &mut [usize; 4096],
 ) -> Run
-    requires { ⌜ (length (run .named) ≡ 4096) × Lent (now text) (now segs) (counts .segments) (counts .leaves) (now store) (now value) (now new) × Begun (counts .separators) (counts .«last_cr») (now text) (now segs) (counts .segments) (counts .leaves) 129 (buffers (run .named) (now cells) (now store) (now report) (now bytes) (now known)) (run .done) ⌝ }
+    requires { ⌜ Lent (now text) (now segs) (counts .segments) (counts .leaves) × Begun (counts .separators) (counts .«last_cr») (now text) (now segs) (counts .segments) (counts .leaves) 129 (buffers (run .named) (now cells) (now store) (now report) (now bytes) (now known)) (run .done) ⌝ }
     ensures { λ r. ⌜ ((ss : List Segment) (b : Book) → Stands (counts .separators) (counts .«last_cr») (now (text .entry)) (now (segs .entry)) (counts .segments) (counts .leaves) 129 ss b (buffers (run .named) (now (cells .entry)) (now (store .entry)) (now (report .entry)) (now (bytes .entry)) (now (known .entry))) (run .done) → Stands (counts .separators) (counts .«last_cr») (now (text .entry)) (now (segs .entry)) (counts .segments) (counts .leaves) 130 (overSegments (unnamedLeaf key (counts .separators) (forSweep (counts .separators) (knownIn b))) ss) (bookAll sweep (segmentsEvents (unnamedEvents key (counts .separators) (forSweep (counts .separators) (knownIn b))) ss) b) (buffers (r .named) (now (cells .exit)) (now (store .exit)) (now (report .exit)) (now (bytes .exit)) (now (known .exit))) (r .done)) ⌝ }
 {
     let done = run.done;
@@ -322,14 +322,14 @@ fn run_rest(
     text: &[u8],
     segs: &[usize],
     cells: &mut [usize],
-    store: &mut [u8],
+    store: &mut [u8; 147456],
     report: &mut [u8],
-    value: &mut [u8],
-    new: &mut [u8],
-    bytes: &mut [u8],
-    known: &mut [usize],
+    value: &mut [u8; 49152],
+    new: &mut [u8; 49152],
+    bytes: &mut [u8; 16384],
+    known: &mut [usize; 4096],
 ) -> Run
-    requires { ⌜ (length (run .named) ≡ 4096) × PolicyHeld (now text) policy × Lent (now text) (now segs) (counts .segments) (counts .leaves) (now store) (now value) (now new) × Begun (counts .separators) (counts .«last_cr») (now text) (now segs) (counts .segments) (counts .leaves) 128 (buffers (run .named) (now cells) (now store) (now report) (now bytes) (now known)) (run .done) ⌝ }
+    requires { ⌜ PolicyHeld (now text) policy × Lent (now text) (now segs) (counts .segments) (counts .leaves) × Begun (counts .separators) (counts .«last_cr») (now text) (now segs) (counts .segments) (counts .leaves) 128 (buffers (run .named) (now cells) (now store) (now report) (now bytes) (now known)) (run .done) ⌝ }
     ensures { λ r. ⌜ ((ss : List Segment) (b : Book) → Stands (counts .separators) (counts .«last_cr») (now (text .entry)) (now (segs .entry)) (counts .segments) (counts .leaves) 128 ss b (buffers (run .named) (now (cells .entry)) (now (store .entry)) (now (report .entry)) (now (bytes .entry)) (now (known .entry))) (run .done) → Stands (counts .separators) (counts .«last_cr») (now (text .entry)) (now (segs .entry)) (counts .segments) (counts .leaves) 130 (endSegments key (counts .separators) (asPolicy (now (text .entry)) policy) ss b) (endBook key (counts .separators) (asPolicy (now (text .entry)) policy) ss b) (buffers (r .named) (now (cells .exit)) (now (store .exit)) (now (report .exit)) (now (bytes .exit)) (now (known .exit))) (r .done)) ⌝ }
 {
     let posture = policy.posture;
@@ -375,14 +375,14 @@ fn run_turns(
     text: &[u8],
     segs: &[usize],
     cells: &mut [usize],
-    store: &mut [u8],
+    store: &mut [u8; 147456],
     report: &mut [u8],
-    value: &mut [u8],
-    new: &mut [u8],
-    bytes: &mut [u8],
-    known: &mut [usize],
+    value: &mut [u8; 49152],
+    new: &mut [u8; 49152],
+    bytes: &mut [u8; 16384],
+    known: &mut [usize; 4096],
 ) -> Run
-    requires { ⌜ (length (run .named) ≡ 4096) × PolicyHeld (now text) policy × Lent (now text) (now segs) (counts .segments) (counts .leaves) (now store) (now value) (now new) × Begun (counts .separators) (counts .«last_cr») (now text) (now segs) (counts .segments) (counts .leaves) 0 (buffers (run .named) (now cells) (now store) (now report) (now bytes) (now known)) (run .done) ⌝ }
+    requires { ⌜ PolicyHeld (now text) policy × Lent (now text) (now segs) (counts .segments) (counts .leaves) × Begun (counts .separators) (counts .«last_cr») (now text) (now segs) (counts .segments) (counts .leaves) 0 (buffers (run .named) (now cells) (now store) (now report) (now bytes) (now known)) (run .done) ⌝ }
     ensures { λ r. ⌜ ((ss : List Segment) (b : Book) → Stands (counts .separators) (counts .«last_cr») (now (text .entry)) (now (segs .entry)) (counts .segments) (counts .leaves) 0 ss b (buffers (run .named) (now (cells .entry)) (now (store .entry)) (now (report .entry)) (now (bytes .entry)) (now (known .entry))) (run .done) → Stands (counts .separators) (counts .«last_cr») (now (text .entry)) (now (segs .entry)) (counts .segments) (counts .leaves) 130 (endSegments key (counts .separators) (asPolicy (now (text .entry)) policy) (afterRules key (counts .separators) (asPolicy (now (text .entry)) policy .rules) ss) (bookAll (policy .sweep) (rulesEvents key (counts .separators) (asPolicy (now (text .entry)) policy .rules) ss) b)) (endBook key (counts .separators) (asPolicy (now (text .entry)) policy) (afterRules key (counts .separators) (asPolicy (now (text .entry)) policy .rules) ss) (bookAll (policy .sweep) (rulesEvents key (counts .separators) (asPolicy (now (text .entry)) policy .rules) ss) b)) (buffers (r .named) (now (cells .exit)) (now (store .exit)) (now (report .exit)) (now (bytes .exit)) (now (known .exit))) (r .done)) ⌝ }
 {
     let ruled = run_rules(
@@ -426,14 +426,14 @@ pub fn run_all(
     message: &[u8],
     segs: &[usize],
     cells: &mut [usize],
-    store: &mut [u8],
+    store: &mut [u8; 147456],
     report: &mut [u8],
-    value: &mut [u8],
-    new: &mut [u8],
-    bytes: &mut [u8],
-    known: &mut [usize],
+    value: &mut [u8; 49152],
+    new: &mut [u8; 49152],
+    bytes: &mut [u8; 16384],
+    known: &mut [usize; 4096],
 ) -> Done
-    requires { ⌜ PolicyHeld (now text) policy × Loaded (now message) (now text) counts (now segs) (now cells) (now store) (now value) (now new) (now bytes) (now known) ⌝ }
+    requires { ⌜ PolicyHeld (now text) policy × Loaded (now message) (now text) counts (now segs) (now cells) ⌝ }
     ensures { λ r. ⌜ RunIs key (asPolicy (now (text .entry)) policy) (now (message .entry)) counts (now (segs .entry)) (now (cells .exit)) (now (store .exit)) (now (report .exit)) r ⌝ }
 {
     let used = copy_at(store, 0, message);

@@ -49,49 +49,46 @@ sum-front cells i e n h l = let f : e - i + (n - e) ≡ n - i = omega arith in r
 
 -- ---- before a leaf
 
-module _ {node : Bool} {cells : List ℕ} {store : Text} {i n : ℕ} {c : Counters} (f : Funded node cells store i n c) where
-  pub funded-ready : node ≡ false → i < n → Good cells store n (c .used) → Ready cells store n i c
+module _ {node : Bool} {cells : List ℕ} {i n : ℕ} {c : Counters} (f : Funded node cells i n c) where
+  pub funded-ready : node ≡ false → {store : Text} → i < n → Good cells store n (c .used) → Ready cells store n i c
   funded-ready e h g = record {
     inside = h;
     good = g;
     within = λ q. omega (arith, sum-step cells i n h, live-length cells i q, f .within e);
     most = f .most;
     ample = omega (arith, f .sum e, f .most);
-    low = omega (arith, f .sum e, f .most, f .wide);
     rows = omega (arith, f .few);
     report = omega (arith, f .report);
   }
 
-  pub funded-node : node ≡ true → {end : ℕ} → i < end → end ≤ n → Good cells store n (c .used) → NodeReady cells store n i end c
-  funded-node e {end} h l g = record {
+  pub funded-node : node ≡ true → {store : Text} {end : ℕ} → i < end → end ≤ n → Good cells store n (c .used) → NodeReady cells store n i end c
+  funded-node e {end = end} h l g = record {
     inside = h;
     ends = l;
     good = g;
     texts = omega (arith, sum-front cells i end n (omega arith) l, f .texts);
     most = f .most;
     ample = omega (arith, f .flat e);
-    low = omega (arith, f .flat e, f .wide);
     rows = omega (arith, f .few);
     report = omega (arith, f .report);
   }
 
-  pub funded-more : i < n → {P : Pass} {sweep : Bool} {g : Label} {end : ℕ} {ks ks′ : List Known} {m m′ : ℕ → Bool} {report : Text} {cells′ : List ℕ} {store′ report′ : Text} {c′ : Counters}
-      → Visited P node sweep g n end i ks ks′ m m′ cells store report c cells′ store′ report′ c′ → Funded node cells′ store′ (suc i) n c′
+  pub funded-more : i < n → {P : Pass} {sweep : Bool} {g : Label} {end : ℕ} {ks ks′ : List Known} {m m′ : ℕ → Bool} {store report : Text} {cells′ : List ℕ} {store′ report′ : Text} {c′ : Counters}
+      → Visited P node sweep g n end i ks ks′ m m′ cells store report c cells′ store′ report′ c′ → Funded node cells′ (suc i) n c′
   funded-more h {cells′ = cells′} v =
       let s = sum-same cells cells′ (suc i) (n - suc i) (λ j l. v .lens j (λ e. omega arith)) in
       record {
-        sum = λ e. omega (arith, sum-step cells i n h, s, v .paid e, f .sum e, v .store-long);
-        flat = λ e. omega (arith, v .flat e, f .flat e, v .store-long);
+        sum = λ e. omega (arith, sum-step cells i n h, s, v .paid e, f .sum e);
+        flat = λ e. omega (arith, v .flat e, f .flat e);
         within = λ e. omega (arith, sum-step cells i n h, s, v .paid e, v .grows, f .within e);
         texts = omega (arith, sum-step cells i n h, s, f .texts);
         most = v .size-most;
-        wide = omega (arith, v .store-long, f .wide);
         few = omega (arith, v .rows, f .few);
         report = omega (arith, v .report-most, f .report);
       }
 
   -- further on, where nothing was done
-  pub funded-skip : {j : ℕ} → i ≤ j → j ≤ n → Funded node cells store j n c
+  pub funded-skip : {j : ℕ} → i ≤ j → j ≤ n → Funded node cells j n c
   funded-skip {j} h l =
       let s = sum-behind cells i j n h l in
       record {
@@ -100,7 +97,6 @@ module _ {node : Bool} {cells : List ℕ} {store : Text} {i n : ℕ} {c : Counte
         within = λ e. omega (arith, s, f .within e);
         texts = omega (arith, s, f .texts);
         most = f .most;
-        wide = f .wide;
         few = omega (arith, f .few);
         report = omega (arith, f .report);
       }

@@ -214,7 +214,7 @@ ordered-as β₀ β e o = record {
 
 module _ (key : ℕ) (s : Separators) (text : Text) (turn : Turn) (sweep : Bool) (g : Label) (n first end : ℕ) (β₀ : Buffers) (c₀ : Counters) (l : end ≤ n) (o : Ordered (β₀ .cells) first end) where
   -- no leaf before its path's field
-  pub segment-entered : {r : ℕ} → first ≤ end → Held text n β₀ c₀ → Funded (collapses turn) (β₀ .cells) (β₀ .store) first n c₀ → StartAt (fieldOf turn) first end r
+  pub segment-entered : {r : ℕ} → first ≤ end → Held text n β₀ c₀ → Funded (collapses turn) (β₀ .cells) first n c₀ → StartAt (fieldOf turn) first end r
       → SegmentPassed key s text turn sweep g n first end r β₀ c₀ β₀ c₀
   segment-entered h d f a =
       segment-skipped key s text turn sweep g n first end β₀ c₀ l β₀ c₀ (started turn g (β₀ .named) (β₀ .cells) o a) (segment-start key s text turn sweep g n first end β₀ c₀ h d f)

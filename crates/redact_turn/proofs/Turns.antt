@@ -37,21 +37,19 @@ use Rattle.redact_turn.specs.declared.turn.Turn.the-variants.{Apply, Col
 use Rattle.redact_turn.proofs.Funds.{funded-more, funded-skip}
 
 kept-none : (β : Buffers) → Kept β β
-kept-none β = record { place = λ j. refl; cells = refl; store = refl; report = refl; named = refl }
+kept-none β = record { place = λ j. refl; cells = refl; report = refl }
 
 pub kept-then : {β₀ β β′ : Buffers} → Kept β₀ β → Kept β β′ → Kept β₀ β′
 kept-then k l = record {
   place = λ j. l .place j ∙ k .place j;
   cells = l .cells ∙ k .cells;
-  store = l .store ∙ k .store;
   report = l .report ∙ k .report;
-  named = l .named ∙ k .named;
 }
 
 -- ---- the leaves of a segment
 
 module _ (P : Pass) (node sweep : Bool) (g : Label) (n first end : ℕ) (text : Text) (β₀ : Buffers) (c₀ : Counters) where
-  pub passing-start : first ≤ end → Held text n β₀ c₀ → Funded node (β₀ .cells) (β₀ .store) first n c₀ → Passing P node sweep g n first end first text β₀ c₀ β₀ c₀
+  pub passing-start : first ≤ end → Held text n β₀ c₀ → Funded node (β₀ .cells) first n c₀ → Passing P node sweep g n first end first text β₀ c₀ β₀ c₀
   passing-start h d f = record {
     low = omega arith;
     high = h;
@@ -80,9 +78,9 @@ module _ (P : Pass) (node sweep : Bool) (g : Label) (n first end : ℕ) (text : 
                 to = rw add-one (leaves-more P sweep g n first end l (t .to) h (record { here = u .here; other = u .other; book = unfold saidOf in refl }));
               };
           ahead = λ j a k. u .other j k (λ e. omega arith) ∙ w .ahead j (omega arith) k;
-          held = record { good = u .good; known = v .held; marks = omega (arith, v .named-long, w .held .marks) };
+          held = record { good = u .good; known = v .held; marks = w .held .marks };
           funded = rw add-one (funded-more (w .funded) (omega arith) u);
-          kept = kept-then (w .kept) (record { place = u .place; cells = u .cells-long; store = u .store-long; report = u .report-long; named = v .named-long });
+          kept = kept-then (w .kept) (record { place = u .place; cells = u .cells-long; report = u .report-long });
           more = record { rows = omega (arith, u .rows, w .more .rows, w .low); report = omega (arith, u .report-most, w .more .report, w .low) };
         }
 
@@ -119,7 +117,7 @@ module _ (P : Pass) (g : Label) (same : (x : Leaf) (xs : List Leaf) → P .leaf 
       }
 
   pub passing-skip : (node sweep : Bool) (n first end : ℕ) (text : Text) (β : Buffers) (c : Counters) → first ≤ end → end ≤ n → Held text n β c
-      → Funded node (β .cells) (β .store) first n c → Passing P node sweep g n first end end text β c β c
+      → Funded node (β .cells) first n c → Passing P node sweep g n first end end text β c β c
   passing-skip node sweep n first end text β c h l d f = record {
     low = h;
     high = omega arith;
@@ -135,7 +133,7 @@ module _ (P : Pass) (g : Label) (same : (x : Leaf) (xs : List Leaf) → P .leaf 
 
 module _ (key : ℕ) (s : Separators) (text : Text) (turn : Turn) (sweep : Bool) where
   module _ (g : Label) (n first end : ℕ) (β₀ : Buffers) (c₀ : Counters) where
-    pub segment-start : first ≤ end → Held text n β₀ c₀ → Funded (collapses turn) (β₀ .cells) (β₀ .store) first n c₀
+    pub segment-start : first ≤ end → Held text n β₀ c₀ → Funded (collapses turn) (β₀ .cells) first n c₀
         → SegmentPassed key s text turn sweep g n first end first β₀ c₀ β₀ c₀
     segment-start h d f = record { passing = passing-start (passOf key s text (knowing text β₀ c₀) turn) (collapses turn) sweep g n first end text β₀ c₀ h d f; pass = refl }
 
@@ -173,7 +171,7 @@ module _ (P : Pass) (sweep : Bool) (labels : ℕ → Label) (firsts : ℕ → �
       ∙ stopped-stays sweep rest e
 
 module _ (key : ℕ) (s : Separators) (text : Text) (turn : Turn) (sweep : Bool) (segs : List ℕ) (m n : ℕ) (z : Segmented segs m n) (β₀ : Buffers) (c₀ : Counters) where
-  pub turning-start : Held text n β₀ c₀ → Funded (collapses turn) (β₀ .cells) (β₀ .store) 0 n c₀ → Turning key s text turn sweep segs m n 0 β₀ c₀ β₀ c₀
+  pub turning-start : Held text n β₀ c₀ → Funded (collapses turn) (β₀ .cells) 0 n c₀ → Turning key s text turn sweep segs m n 0 β₀ c₀ β₀ c₀
   turning-start d f = record {
     high = omega arith;
     walked = λ b k. record { book = b; stands = k; to = segments-start (passOf key s text (knowing text β₀ c₀) turn) sweep (labelAt segs) (firstLeaf segs) n m (leaves β₀) b };
@@ -277,7 +275,7 @@ module _ (key : ℕ) (s : Separators) (text : Text) (ks : List Known) (g : Label
 
 module _ (key : ℕ) (s : Separators) (text : Text) (turn : Turn) (sweep : Bool) (g : Label) where
   pub segment-skip : enters text turn g ≡ false → (n first end : ℕ) (β : Buffers) (c : Counters) → first ≤ end → end ≤ n → Held text n β c
-      → Funded (collapses turn) (β .cells) (β .store) first n c → SegmentPassed key s text turn sweep g n first end end β c β c
+      → Funded (collapses turn) (β .cells) first n c → SegmentPassed key s text turn sweep g n first end end β c β c
   segment-skip e n first end β c h l d f =
       let P = passOf key s text (knowing text β c) turn in
       let q = unentered-same key s text (knowing text β c) g turn e in
@@ -341,7 +339,6 @@ module _ (key : ℕ) (s : Separators) (text : Text) (sweep : Bool) (g : Label) (
     unnamed-rule c′ v = record {
       visited = rw (same-known c′ (v .known)) (v .visited);
       held = record { good = rw (v .known, v .known-used) (h .good); held = rw (v .known) (h .held) };
-      named-long = refl;
     }
 
     pub visited-reject : {turn : Turn} {a : HeldAction} → turn ≡ Reject a → (x : Done)

@@ -45,15 +45,13 @@ Books text β c b = Booked (knowing text β c) (β .report) c b
 pub record Held (text : Text) (n : ℕ) (β : Buffers) (c : Counters) : Type 0 where
   pub good : Good (β .cells) (β .store) n (c .used)
   pub known : KnownHeld text (β .bytes) (β .known) c
-  pub marks : n ≤ length (β .named)
+  pub marks : n ≤ 4096
 
 -- what no turn changes
 pub record Kept (β₀ β : Buffers) : Type 0 where
   pub place : (j : ℕ) → placeAt (β .cells) j ≡ placeAt (β₀ .cells) j
   pub cells : length (β .cells) ≡ length (β₀ .cells)
-  pub store : length (β .store) ≡ length (β₀ .store)
   pub report : length (β .report) ≡ length (β₀ .report)
-  pub named : length (β .named) ≡ length (β₀ .named)
 
 -- at most k rows more
 pub record RowsMore (k : ℕ) (c₀ c : Counters) : Type 0 where
@@ -89,7 +87,7 @@ pub record Passing (P : Pass) (node sweep : Bool) (g : Label) (n first end i : �
   pub walked : (b : Book) → Books text β₀ c₀ b → WalkedTo P sweep g n first end i text β₀ β c b
   pub ahead : (j : ℕ) → i ≤ j → j < n → leaves β j ≡ leaves β₀ j
   pub held : Held text n β c
-  pub funded : Funded node (β .cells) (β .store) i n c
+  pub funded : Funded node (β .cells) i n c
   pub kept : Kept β₀ β
   pub more : RowsMore (i - first) c₀ c
 
@@ -122,7 +120,7 @@ pub record Turning (key : ℕ) (s : Separators) (text : Text) (turn : Turn) (swe
   pub walked : (b : Book) → Books text β₀ c₀ b → SegmentsWalked (passOf key s text (knowing text β₀ c₀) turn) sweep segs m n k text β₀ β c b
   pub ahead : (j : ℕ) → firstLeaf segs k ≤ j → j < n → leaves β j ≡ leaves β₀ j
   pub held : Held text n β c
-  pub funded : Funded (collapses turn) (β .cells) (β .store) (firstLeaf segs k) n c
+  pub funded : Funded (collapses turn) (β .cells) (firstLeaf segs k) n c
   pub kept : Kept β₀ β
   pub more : RowsMore (firstLeaf segs k) c₀ c
   pub pass : passOf key s text (knowing text β c) turn ≡ passOf key s text (knowing text β₀ c₀) turn

@@ -123,12 +123,12 @@ fn skip(
     turn: Turn,
     field: u64,
     g: Label,
-    named: &[bool],
+    named: &[bool; 4096],
     cells: &[usize],
     i: usize,
     end: usize,
 ) -> usize
-    requires { ⌜ (field ≡ fieldOf turn) × (i ≤ end) × (end * 8 ≤ length (now cells)) × (end ≤ length (now named)) × Rising (now cells) i end ⌝ }
+    requires { ⌜ (field ≡ fieldOf turn) × (i ≤ end) × (end * 8 ≤ length (now cells)) × (end ≤ 4096) × Rising (now cells) i end ⌝ }
     ensures { λ r. ⌜ Skipped turn (asLabel g) (now (named .entry)) (now (cells .entry)) i end r ⌝ }
 {
     let mut j = i;
@@ -155,17 +155,17 @@ fn visit(
     n: usize,
     end: usize,
     i: usize,
-    named: &mut [bool],
+    named: &mut [bool; 4096],
     cells: &mut [usize],
-    store: &mut [u8],
+    store: &mut [u8; 147456],
     report: &mut [u8],
-    value: &mut [u8],
-    new: &mut [u8],
-    bytes: &mut [u8],
-    known: &mut [usize],
+    value: &mut [u8; 49152],
+    new: &mut [u8; 49152],
+    bytes: &mut [u8; 16384],
+    known: &mut [usize; 4096],
     c: Counters,
 ) -> Done
-    requires { ⌜ TurnHeld (now text) turn × (Turns.enters (now text) turn (asLabel g) ≡ true) × (i < end) × (end ≤ n) × Held (now text) n (buffers (now named) (now cells) (now store) (now report) (now bytes) (now known)) c × Funded (collapses turn) (now cells) (now store) i n c × (length (now text) ≤ 32768) × (49152 ≤ length (now value)) × (49152 ≤ length (now new)) ⌝ }
+    requires { ⌜ TurnHeld (now text) turn × (Turns.enters (now text) turn (asLabel g) ≡ true) × (i < end) × (end ≤ n) × Held (now text) n (buffers (now named) (now cells) (now store) (now report) (now bytes) (now known)) c × Funded (collapses turn) (now cells) i n c × (length (now text) ≤ 32768) ⌝ }
     ensures { λ r. ⌜ TurnVisit key s (now (text .entry)) turn sweep (asLabel g) n end i (buffers (now (named .entry)) (now (cells .entry)) (now (store .entry)) (now (report .entry)) (now (bytes .entry)) (now (known .entry))) c (buffers (now (named .exit)) (now (cells .exit)) (now (store .exit)) (now (report .exit)) (now (bytes .exit)) (now (known .exit))) r ⌝ }
 {
     let was = named[i];
@@ -254,17 +254,17 @@ fn pass_leaves(
     n: usize,
     first: usize,
     end: usize,
-    named: &mut [bool],
+    named: &mut [bool; 4096],
     cells: &mut [usize],
-    store: &mut [u8],
+    store: &mut [u8; 147456],
     report: &mut [u8],
-    value: &mut [u8],
-    new: &mut [u8],
-    bytes: &mut [u8],
-    known: &mut [usize],
+    value: &mut [u8; 49152],
+    new: &mut [u8; 49152],
+    bytes: &mut [u8; 16384],
+    known: &mut [usize; 4096],
     c0: Counters,
 ) -> Done
-    requires { ⌜ TurnHeld (now text) turn × (Turns.enters (now text) turn (asLabel g) ≡ true) × (first ≤ end) × (end ≤ n) × Ordered (now cells) first end × Held (now text) n (buffers (now named) (now cells) (now store) (now report) (now bytes) (now known)) c0 × Funded (collapses turn) (now cells) (now store) first n c0 × (length (now text) ≤ 32768) × (49152 ≤ length (now value)) × (49152 ≤ length (now new)) ⌝ }
+    requires { ⌜ TurnHeld (now text) turn × (Turns.enters (now text) turn (asLabel g) ≡ true) × (first ≤ end) × (end ≤ n) × Ordered (now cells) first end × Held (now text) n (buffers (now named) (now cells) (now store) (now report) (now bytes) (now known)) c0 × Funded (collapses turn) (now cells) first n c0 × (length (now text) ≤ 32768) ⌝ }
     ensures { λ r. ⌜ SegmentPassedOr key s (now (text .entry)) turn sweep (asLabel g) n first end (buffers (now (named .entry)) (now (cells .entry)) (now (store .entry)) (now (report .entry)) (now (bytes .entry)) (now (known .entry))) c0 (buffers (now (named .exit)) (now (cells .exit)) (now (store .exit)) (now (report .exit)) (now (bytes .exit)) (now (known .exit))) r ⌝ }
 {
     let field = field_of(turn);
@@ -314,17 +314,17 @@ fn pass_segment(
     segs: &[usize],
     n: usize,
     k: usize,
-    named: &mut [bool],
+    named: &mut [bool; 4096],
     cells: &mut [usize],
-    store: &mut [u8],
+    store: &mut [u8; 147456],
     report: &mut [u8],
-    value: &mut [u8],
-    new: &mut [u8],
-    bytes: &mut [u8],
-    known: &mut [usize],
+    value: &mut [u8; 49152],
+    new: &mut [u8; 49152],
+    bytes: &mut [u8; 16384],
+    known: &mut [usize; 4096],
     c: Counters,
 ) -> Done
-    requires { ⌜ TurnHeld (now text) turn × BytesNamed (now segs) k × (k * 8 + 16 ≤ length (now segs)) × (firstLeaf (now segs) k ≤ firstLeaf (now segs) (k + 1)) × (firstLeaf (now segs) (k + 1) ≤ n) × Ordered (now cells) (firstLeaf (now segs) k) (firstLeaf (now segs) (k + 1)) × Held (now text) n (buffers (now named) (now cells) (now store) (now report) (now bytes) (now known)) c × Funded (collapses turn) (now cells) (now store) (firstLeaf (now segs) k) n c × (length (now text) ≤ 32768) × (49152 ≤ length (now value)) × (49152 ≤ length (now new)) ⌝ }
+    requires { ⌜ TurnHeld (now text) turn × BytesNamed (now segs) k × (k * 8 + 16 ≤ length (now segs)) × (firstLeaf (now segs) k ≤ firstLeaf (now segs) (k + 1)) × (firstLeaf (now segs) (k + 1) ≤ n) × Ordered (now cells) (firstLeaf (now segs) k) (firstLeaf (now segs) (k + 1)) × Held (now text) n (buffers (now named) (now cells) (now store) (now report) (now bytes) (now known)) c × Funded (collapses turn) (now cells) (firstLeaf (now segs) k) n c × (length (now text) ≤ 32768) ⌝ }
     ensures { λ r. ⌜ SegmentPassedOr key s (now (text .entry)) turn sweep (labelAt (now (segs .entry)) k) n (firstLeaf (now (segs .entry)) k) (firstLeaf (now (segs .entry)) (k + 1)) (buffers (now (named .entry)) (now (cells .entry)) (now (store .entry)) (now (report .entry)) (now (bytes .entry)) (now (known .entry))) c (buffers (now (named .exit)) (now (cells .exit)) (now (store .exit)) (now (report .exit)) (now (bytes .exit)) (now (known .exit))) r ⌝ }
 {
     let g = label_at(segs, k);
@@ -365,17 +365,17 @@ pub fn take_turn(
     segs: &[usize],
     m: usize,
     n: usize,
-    named: &mut [bool],
+    named: &mut [bool; 4096],
     cells: &mut [usize],
-    store: &mut [u8],
+    store: &mut [u8; 147456],
     report: &mut [u8],
-    value: &mut [u8],
-    new: &mut [u8],
-    bytes: &mut [u8],
-    known: &mut [usize],
+    value: &mut [u8; 49152],
+    new: &mut [u8; 49152],
+    bytes: &mut [u8; 16384],
+    known: &mut [usize; 4096],
     c0: Counters,
 ) -> Done
-    requires { ⌜ TurnHeld (now text) turn × AllNamed (now segs) m × Segmented (now segs) m n × AllOrdered (now segs) (now cells) m × Held (now text) n (buffers (now named) (now cells) (now store) (now report) (now bytes) (now known)) c0 × Funded (collapses turn) (now cells) (now store) 0 n c0 × (length (now text) ≤ 32768) × (49152 ≤ length (now value)) × (49152 ≤ length (now new)) ⌝ }
+    requires { ⌜ TurnHeld (now text) turn × AllNamed (now segs) m × Segmented (now segs) m n × AllOrdered (now segs) (now cells) m × Held (now text) n (buffers (now named) (now cells) (now store) (now report) (now bytes) (now known)) c0 × Funded (collapses turn) (now cells) 0 n c0 × (length (now text) ≤ 32768) ⌝ }
     ensures { λ r. ⌜ TurnedOr (passOf key s (now (text .entry)) (knowing (now (text .entry)) (buffers (now (named .entry)) (now (cells .entry)) (now (store .entry)) (now (report .entry)) (now (bytes .entry)) (now (known .entry))) c0) turn) sweep (now (segs .entry)) m n (now (text .entry)) (buffers (now (named .entry)) (now (cells .entry)) (now (store .entry)) (now (report .entry)) (now (bytes .entry)) (now (known .entry))) c0 (buffers (now (named .exit)) (now (cells .exit)) (now (store .exit)) (now (report .exit)) (now (bytes .exit)) (now (known .exit))) r ⌝ }
 {
     let mut c = c0;

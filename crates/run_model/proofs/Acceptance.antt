@@ -11,7 +11,7 @@ use Rattle.text.proofs.Laws.{clash}
 use Rattle.refusal.specs.declared.Refusal.{Refusal}
 use Rattle.refusal.specs.declared.Refusal.the-variants.{ShortBuffer, TooLong, ForeignByte, TooMany, Withheld, NoSuchBuiltin}
 use Rattle.refusal.specs.Refusal.{number, tooLong}
-use Rattle.message_model.specs.Message.{messageOf, messageFault}
+use Rattle.message_model.specs.Message.{messageOf, messageFault, printMessage}
 use Rattle.policy_model.specs.Policy as Q
 use Rattle.policy_model.specs.Policy.{Policy, PolicyRead, read, readPolicy, Unrecognised, pass, refuse, apply}
 use Rattle.policy_model.specs.Builtin.{builtinText}
@@ -63,10 +63,10 @@ redact-judged : (b : Lent) (m p : Text) (key : ℕ) → Judges (rowOfRedact b m 
 unfolding rowOfRedact redactAnswer withPolicyRow
 redact-judged b m p key =
     buffers-judged b _ _
-    (policy-then p (λ r e. messageRow m e || withPolicyRow r λ P. runRow b key P (messageOf m) e)
+    (policy-then p (λ r e. messageRow m e || withPolicyRow r λ P. runRow (length (printMessage (messageOf m))) b key P (messageOf m) e)
     (λ P. withoutFault (messageFault m) (reported b (redact key P (messageOf m))))
-    (λ P q. fault-then (messageRow m) (runRow b key P (messageOf m)) (messageFault m) (reported b (redact key P (messageOf m))) (message-judged m)
-    (run-judged b key P (messageOf m))))
+    (λ P q. fault-then (messageRow m) (runRow (length (printMessage (messageOf m))) b key P (messageOf m)) (messageFault m) (reported b (redact key P (messageOf m))) (message-judged m)
+    (unfold redact in run-judged (length (printMessage (messageOf m))) key P (messageOf m) b)))
 
 print-judged : (b : Lent) (p : Text) → Judges (rowOfPrint b p) (refusalIn (printAnswer b p))
 unfolding rowOfPrint printAnswer

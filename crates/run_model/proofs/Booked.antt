@@ -15,11 +15,13 @@ use Rattle.er7.specs.declared.separators.Separators.{Separators}
 use Rattle.refusal.specs.declared.Refusal.{Refusal}
 use Rattle.refusal.specs.declared.Refusal.the-variants.{TooMuchLearnt, MessageTooLong, ReportTooLong}
 use Rattle.refusal.specs.Refusal.{number}
-use Rattle.message_model.specs.Message.{Segment, Message, printMessage, printSegments}
+use Rattle.message_model.specs.Message.{Segment, Message, printSegments}
 use Rattle.policy_model.specs.Policy.{Policy}
-use Rattle.run_model.specs.Redact.{Row, Event, learn, change, Known, Book, running, stopped, knows, knownBytes, booked, bookAll, knownIn, segmentsEvents, unnamedEvents, overSegments, unnamedLeaf, forSweep, beforeSweep, eventsBeforeSweep, bookBeforeSweep, redactedAs, swept, redact, printRows}
+use Rattle.run_model.specs.Redact as R
+use Rattle.run_model.specs.Redact.{Row, Event, learn, change, Known, Book, running, stopped, knows, knownBytes, booked, bookAll, knownIn, segmentsEvents, unnamedEvents, overSegments, unnamedLeaf, forSweep, beforeSweep, eventsBeforeSweep, bookBeforeSweep, redactedAs, swept, redactFrom, printRows}
 use Rattle.run_model.specs.Entries.{Answer, done, refused, Lent, reported}
 use Rattle.run_model.specs.Table.{is, learntFrom, rowsOf, overflows, learntIn, eventsOf, exceeds, runRow}
+use Rattle.run_model.specs.Counts.{textAfter, RunIs}
 use Rattle.run_model.proofs.Learning.{AllKnown, known-snoc, Learns, learns-segs}
 use Rattle.run_model.proofs.Judged.{Judges, or-false, or-left, or-right, and-none}
 
@@ -62,7 +64,7 @@ abbrev pub BookIs : List Known → List Row → Bool → Book → Type 0
 BookIs L σ o (running ls σs y) = (ls ≡ L) × (σs ≡ σ) × (exceeds L ≡ false) × (o ≡ false)
 BookIs L σ o (stopped e) = ((e ≡ TooMuchLearnt) × (exceeds L ≡ true)) ⊎ ((e ≡ MessageTooLong) × (o ≡ true))
 
-book-stopped : (sweep : Bool) (es : List Event) (e : Refusal) → bookAll sweep es (stopped e) ≡ stopped e
+pub book-stopped : (sweep : Bool) (es : List Event) (e : Refusal) → bookAll sweep es (stopped e) ≡ stopped e
 unfolding bookAll booked
 book-stopped sweep [] e = refl
 book-stopped sweep (x ∷ es) e = book-stopped sweep es e
@@ -180,7 +182,7 @@ unfoldable pub refusalIn : Answer → Option Refusal
 refusalIn (done t ρs) = none
 refusalIn (refused e n) = some e
 
-module _ (b : Lent) (key : ℕ) (P : Policy) (m : Message) where
+module _ (z : ℕ) (key : ℕ) (P : Policy) (m : Message) where
   abbrev s : Separators
   s = m .separators
 
@@ -192,43 +194,70 @@ module _ (b : Lent) (key : ℕ) (P : Policy) (m : Message) where
   sweeping ks = segmentsEvents (unnamedEvents key s (forSweep s ks)) (beforeSweep key s P (m .segments))
 
   abbrev begun : Book
-  begun = running [] [] (length (printSegments s (m .lastCR) (m .segments)))
+  begun = running [] [] z
 
   known-all : (sweep : Bool) (ks : List Known) → known sweep [] (before ++ sweeping ks) ≡ known sweep [] before
   known-all true ks = learnt-append before (sweeping ks) [] ∙ learnt-none (sweeping ks) (learntFrom [] before) (learns-segs key s (λ v. ⊥) (forSweep s ks) (beforeSweep key s P (m .segments)))
   known-all false ks = refl
 
   abbrev FinishedIs : Book → Type 0
-  FinishedIs B = BookIs (learntIn key P m) (rowsOf (eventsOf key P m)) (overflows (length (printMessage m)) (eventsOf key P m)) B
+  FinishedIs B = BookIs (learntIn key P m) (rowsOf (eventsOf key P m)) (overflows z (eventsOf key P m)) B
 
-  finished : (B : Book) → FinishedIs B → (ss : List Segment) → Judges (runRow b key P m) (refusalIn (reported b (redactedAs s (m .lastCR) B ss)))
+  finished : (b : Lent) (B : Book) → FinishedIs B → (ss : List Segment) → Judges (runRow z b key P m) (refusalIn (reported b (redactedAs s (m .lastCR) B ss)))
   unfolding redactedAs reported
-  finished (running ls σs y) h ss = rw (h .1) (go (ltb (b .report) (length (printRows (rowsOf (eventsOf key P m))))) refl)
+  finished b (running ls σs y) h ss = rw (h .1) (go (ltb (b .report) (length (printRows (rowsOf (eventsOf key P m))))) refl)
     where
       go : (c : Bool) → ltb (b .report) (length (printRows (rowsOf (eventsOf key P m)))) ≡ c
-          → Judges (runRow b key P m) (refusalIn (cond c (refused ReportTooLong 0) (done (printSegments s (m .lastCR) ss) (rowsOf (eventsOf key P m)))))
+          → Judges (runRow z b key P m) (refusalIn (cond c (refused ReportTooLong 0) (done (printSegments s (m .lastCR) ss) (rowsOf (eventsOf key P m)))))
       go true e = unfold refusalIn runRow is number in rw e
       go false e = unfold refusalIn runRow in λ x. or-false (or-false (and-none (is x TooMuchLearnt) (h .2)) (and-none (is x MessageTooLong) (h .3))) (and-none (is x ReportTooLong) e)
-  finished (stopped e) (inl (q, x)) ss = unfold refusalIn runRow in rw q (unfold is number in rw x)
-  finished (stopped e) (inr (q, x)) ss = unfold refusalIn runRow in rw q (unfold is number in rw x)
+  finished b (stopped e) (inl (q, x)) ss = unfold refusalIn runRow in rw q (unfold is number in rw x)
+  finished b (stopped e) (inr (q, x)) ss = unfold refusalIn runRow in rw q (unfold is number in rw x)
 
   from-book : (B : Book) → bookAll (P .sweep) before begun ≡ B
-      → BookIs (known (P .sweep) [] before) ([] ++ rowsOf before) (overflows (length (printSegments s (m .lastCR) (m .segments))) before) B
+      → BookIs (known (P .sweep) [] before) ([] ++ rowsOf before) (overflows z before) B
       → FinishedIs (bookAll (P .sweep) (sweeping (knownIn B)) B)
-  unfolding knownIn learntIn eventsOf printMessage
+  unfolding knownIn learntIn eventsOf
   from-book (running ls σs y) e h =
       rw (h .0)
       (subst (λ (C : Book). FinishedIs (bookAll (P .sweep) (sweeping (known (P .sweep) [] before)) C)) (e ∙ ap (λ (x : List Known). running x σs y) (h .0))
       (rw (← book-append (P .sweep) before (sweeping (known (P .sweep) [] before)) begun)
-      (subst (λ (L : List Known). BookIs L (rowsOf (eventsOf key P m)) (overflows (length (printMessage m)) (eventsOf key P m))
+      (subst (λ (L : List Known). BookIs L (rowsOf (eventsOf key P m)) (overflows z (eventsOf key P m))
       (bookAll (P .sweep) (before ++ sweeping (known (P .sweep) [] before)) begun))
       (known-all (P .sweep) (known (P .sweep) [] before))
       (book-is (P .sweep) (before ++ sweeping (known (P .sweep) [] before)) [] [] _ (unfold exceeds knownBytes in refl)))))
   from-book (stopped e) q (inl (f, x)) = rw (book-stopped (P .sweep) (sweeping []) e) (inl (f, x))
   from-book (stopped e) q (inr (f, x)) = rw (book-stopped (P .sweep) (sweeping []) e) (inr (f, overflows-append before _ _ x))
 
-  pub run-judged : Judges (runRow b key P m) (refusalIn (reported b (redact key P m)))
-  unfolding redact swept bookBeforeSweep
-  run-judged =
-      finished _ (from-book (bookAll (P .sweep) before begun) refl (book-is (P .sweep) before [] [] _ (unfold exceeds knownBytes in refl)))
-      (overSegments (unnamedLeaf key s (forSweep s (knownIn (bookAll (P .sweep) before begun)))) (beforeSweep key s P (m .segments)))
+  abbrev started : Book
+  started = bookAll (P .sweep) before begun
+
+  ended-is : FinishedIs (bookAll (P .sweep) (sweeping (knownIn started)) started)
+  ended-is = from-book started refl (book-is (P .sweep) before [] [] _ (unfold exceeds knownBytes in refl))
+
+  pub run-judged : (b : Lent) → Judges (runRow z b key P m) (refusalIn (reported b (redactFrom z key P m)))
+  unfolding redactFrom swept bookBeforeSweep
+  run-judged b = finished b _ ended-is (overSegments (unnamedLeaf key s (forSweep s (knownIn started))) (beforeSweep key s P (m .segments)))
+
+  -- ---- what a run is
+
+  abbrev swept-with : List Known → List Segment
+  swept-with ks = overSegments (unnamedLeaf key s (forSweep s ks)) (beforeSweep key s P (m .segments))
+
+  ended-run : (C : Book) → FinishedIs C → RunIs z key P m (redactedAs s (m .lastCR) C (swept-with (learntIn key P m)))
+  unfolding redactedAs textAfter
+  ended-run (running ls σs y) h =
+      subst (RunIs z key P m) (ap (R.done (textAfter key P m)) (sym (h .1))) (RunIs.goes (h .2) (h .3))
+  ended-run (stopped e) (inl (q, x)) = rw q (RunIs.learnt-full x)
+  ended-run (stopped e) (inr (q, x)) = rw q (RunIs.too-long x)
+
+  begun-run : (B : Book) → BookIs (known (P .sweep) [] before) ([] ++ rowsOf before) (overflows z before) B
+      → FinishedIs (bookAll (P .sweep) (sweeping (knownIn B)) B) → RunIs z key P m (redactedAs s (m .lastCR) (bookAll (P .sweep) (sweeping (knownIn B)) B) (swept-with (knownIn B)))
+  unfolding knownIn learntIn redactedAs
+  begun-run (running ls σs y) h k =
+      subst (λ (x : List Known). RunIs z key P m (redactedAs s (m .lastCR) (bookAll (P .sweep) (sweeping ls) (running ls σs y)) (swept-with x))) (sym (h .0)) (ended-run (bookAll (P .sweep) (sweeping ls) (running ls σs y)) k)
+  begun-run (stopped e) h k = rw (book-stopped (P .sweep) (sweeping []) e) (ended-run (stopped e) (rw (book-stopped (P .sweep) (sweeping []) e) at k))
+
+  pub run-is : RunIs z key P m (redactFrom z key P m)
+  unfolding redactFrom swept bookBeforeSweep
+  run-is = begun-run started (book-is (P .sweep) before [] [] _ (unfold exceeds knownBytes in refl)) ended-is

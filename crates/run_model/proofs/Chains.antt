@@ -291,7 +291,7 @@ module _ (s : Separators) where
   unfolding next starts
   field-begins x p e = rw e
 
-  named-first : (l : Text) → isNamed s l ≡ true → FieldFirst (leavesOf s false l)
+  pub named-first : (l : Text) → isNamed s l ≡ true → FieldFirst (leavesOf s false l)
   unfolding leavesOf leavesBehind
   named-first [] e = tt
   named-first (a ∷ []) e = tt
@@ -301,7 +301,7 @@ module _ (s : Separators) where
       let f = named-line s (a ∷ b ∷ c ∷ x ∷ t) e .behind in
       leaves-first t [] _ (field-begins x (atField 0) (rw (ne-eqb (length (a ∷ b ∷ c ∷ x ∷ t)) 3 (λ q. omega arith)) at f))
 
-  others-first : (ls seen : List Text) (k n : ℕ) → k ≡ length seen → 1 ≤ k → segmentsFault s k n ls ≡ none → FieldsFirst (segments s seen ls)
+  pub others-first : (ls seen : List Text) (k n : ℕ) → 1 ≤ length seen → 1 ≤ k → segmentsFault s k n ls ≡ none → FieldsFirst (segments s seen ls)
   unfolding segments
   others-first [] seen k n q h e = tt
   others-first (l ∷ ls) seen k n q h e =
@@ -314,7 +314,7 @@ module _ (s : Separators) where
 
   header-first : (l : Text) (ls : List Text) → segmentsFault s 0 0 (l ∷ ls) ≡ none → FieldsFirst (segments s [] (l ∷ ls))
   unfolding segments leavesOf atField starts
-  header-first l ls e = (refl, others-first ls (take 3 l ∷ []) 1 _ refl (omega arith) (faultless-lines s 0 0 l ls e .others))
+  header-first l ls e = (refl, others-first ls (take 3 l ∷ []) 1 _ (omega arith) (omega arith) (faultless-lines s 0 0 l ls e .others))
 
 pub message-fields-first : (t : Text) → messageFault t ≡ none → FieldsFirst (messageOf t .segments)
 message-fields-first t e = let f = faultless t e in rw (segments-are t f) (header-first _ (f .line) (f .others) (f .no-fault))

@@ -1,6 +1,6 @@
 -- Demand 3 holds. Assumes nothing.
 use mathlib.Core.Path.{_≡_, refl, sym, ap, _∙_, subst}
-use mathlib.Core.Bool.{false, not}
+use mathlib.Core.Bool.{true, false, not}
 use mathlib.Core.List.{List, [], _∷_}
 use Prim.Native.Nat.{ℕ}
 use lib.Dec.{T}
@@ -27,21 +27,21 @@ unfolding covers
 uncovered [] g n h = tt
 uncovered (r ∷ rs) g n h = rw h (uncovered rs g n h)
 
--- two headers with alike leaves
-leaves-separators : (rs : List Rule) (s z : Separators) (xs ys : List Leaf)
-    → AlikeLeaves rs headerLabel (delimiterLeaves s xs) (delimiterLeaves z ys) → s ≡ z
+-- two headers with alike leaves: MSH, FHS or BHS
+leaves-separators : (rs : List Rule) (g : Label) → g .header ≡ true → (s z : Separators) (xs ys : List Leaf)
+    → AlikeLeaves rs g (delimiterLeaves s xs) (delimiterLeaves z ys) → s ≡ z
 unfolding touchable atField
-leaves-separators rs s z xs ys (AlikeLeaves.next p t u e (AlikeLeaves.next q v w f k)) =
-    separators-same s z (e (uncovered rs headerLabel 1 refl)) (f (uncovered rs headerLabel 2 refl))
+leaves-separators rs g h s z xs ys (AlikeLeaves.next p t u e (AlikeLeaves.next q v w f k)) =
+    separators-same s z (e (uncovered rs g 1 (rw h))) (f (uncovered rs g 2 (rw h)))
 
-header-separators : (rs : List Rule) (s z : Separators) (xs ys : List Leaf) (ss zs : List Segment)
-    → AlikeSegments rs (segment headerLabel (delimiterLeaves s xs) ∷ ss) (segment headerLabel (delimiterLeaves z ys) ∷ zs) → s ≡ z
-header-separators rs s z xs ys ss zs (AlikeSegments.next g w v) = leaves-separators rs s z xs ys w
+pub header-separators : (rs : List Rule) (a b : Label) → a .header ≡ true → (s z : Separators) (xs ys : List Leaf) (ss zs : List Segment)
+    → AlikeSegments rs (segment a (delimiterLeaves s xs) ∷ ss) (segment b (delimiterLeaves z ys) ∷ zs) → s ≡ z
+header-separators rs a b h s z xs ys ss zs (AlikeSegments.next g w v) = leaves-separators rs a h s z xs ys w
 
-same-separators : (rs : List Rule) (a b : Message) → HeaderFirst (a .separators) (a .segments) → HeaderFirst (b .separators) (b .segments)
+pub same-separators : (rs : List Rule) (a b : Message) → HeaderFirst (a .separators) (a .segments) → HeaderFirst (b .separators) (b .segments)
     → Alike rs a b → a .separators ≡ b .separators
 same-separators rs a b f g h =
-    header-separators rs (a .separators) (b .separators) (f .rest) (g .rest) (f .others) (g .others)
+    header-separators rs headerLabel headerLabel refl (a .separators) (b .separators) (f .rest) (g .rest) (f .others) (g .others)
     (subst (λ (z : List Segment). AlikeSegments rs (segment headerLabel (delimiterLeaves (a .separators) (f .rest)) ∷ f .others) z) (g .are)
     (subst (λ (z : List Segment). AlikeSegments rs z (b .segments)) (f .are) (h .segments)))
 

@@ -17,6 +17,7 @@ use Rattle.message_model.specs.Message.{Leaf, leaf, Label, Segment, segment}
 use Rattle.message_model.specs.Value.{isNull, isEmptyOrNull, value}
 use Rattle.run_model.specs.Redact.{covers, Depth, Reach, each-leaf, each-node, reach, isNode, starts, restOfNode, Fate, stays, vanishes, becomes, after, moved, replaced, act, isNil, collapse, fateIn, fate, Row, row, Event, learn, change, changing, learning, took, ruleLeaf, ruleEvents, overLeaves, leavesEvents, segmentsEvents, afterRule, afterRules, rulesEvents}
 use Rattle.run_model.specs.Table.{rowsOf}
+use Rattle.run_model.specs.Counts.{ruleTurns, rowCounts}
 use Rattle.run_model.specs.Demand.{atLeaf, at, text, textAt, works, worksAt, collapses, ChangedAt, SettledAt}
 
 -- ---- two lists of leaves of one shape
@@ -350,3 +351,12 @@ module _ (key : ℕ) (s : Separators) where
             ∙ ap₂ (λ (x y : List Row). x ++ y) (rows-segs key s r v (λ i j. good-fair r rs a b i j (H i j))) (ih .1)
             ∙ sym (rows-append (segmentsEvents (ruleEvents key s r) b) _),
       )
+
+  -- and each rule has as many rows
+  pub counts-in-step : (rs : List Rule) (a b : List Segment) → SameShapes a b → ((i j : ℕ) → Good rs a b i j)
+      → rowCounts (ruleTurns key s rs a) ≡ rowCounts (ruleTurns key s rs b)
+  unfolding ruleTurns rowCounts
+  counts-in-step [] a b v H = refl
+  counts-in-step (r ∷ rs) a b v H =
+      ap₂ (λ (ρs : List Row) (ns : List ℕ). length ρs ∷ ns) (rows-segs key s r v (λ i j. good-fair r rs a b i j (H i j)))
+      (counts-in-step rs (afterRule key s r a) (afterRule key s r b) (turn-segs key s r v) (λ i j. good-next r rs a b v i j (H i j)))

@@ -10,3 +10,4 @@ pub mod Instances
 pub mod Acceptance
 pub mod Chains
 pub mod Sizes
+pub mod Units

@@ -22,7 +22,7 @@ use Rattle.message_model.proofs.Faultless.{faultless}
 use Rattle.message_model.proofs.Messages.{Chained, message-chains}
 use Rattle.message_model.proofs.PrintBack.{message-prints}
 use Rattle.policy_model.specs.Policy.{Policy}
-use Rattle.run_model.specs.Redact.{reaches, covers, Depth, Reach, each-leaf, each-node, reach, starts, restOfNode, Fate, stays, vanishes, becomes, after, act, isNil, collapse, fateIn, fate, Row, row, Event, learn, change, changing, learning, took, size, ruleLeaf, ruleEvents, isUnnamed, actOr, unnamedLeaf, changingOr, unnamedEvents, overLeaves, overSegments, leavesEvents, segmentsEvents, Known, Book, running, stopped, knows, knownBytes, booked, bookAll, afterRule, afterRules, rulesEvents, forPosture, forSweep, beforeSweep, eventsBeforeSweep, bookBeforeSweep, done, redactedAs, swept, redact}
+use Rattle.run_model.specs.Redact.{reaches, covers, Depth, Reach, each-leaf, each-node, reach, starts, restOfNode, Fate, stays, vanishes, becomes, after, act, isNil, collapse, fateIn, fate, Row, row, Event, learn, change, changing, learning, took, size, ruleLeaf, ruleEvents, isUnnamed, actOr, unnamedLeaf, changingOr, unnamedEvents, overLeaves, overSegments, leavesEvents, segmentsEvents, Known, Book, running, stopped, knows, knownBytes, booked, bookAll, afterRule, afterRules, rulesEvents, forPosture, forSweep, beforeSweep, eventsBeforeSweep, bookBeforeSweep, done, redactedAs, swept, redactFrom, redact}
 use Rattle.run_model.proofs.InStep.{isGone, act-gone}
 use Rattle.run_model.proofs.Chains.{positive-at, covers-next, FieldFirst, field-starts, cond-both, rule-live, FieldsFirst, rule-chained, rule-fields-first, message-fields-first}
 
@@ -347,38 +347,36 @@ pub book-size : (sweep : Bool) (es : List Event) (ks ks′ : List Known) (ρs ρ
     → bookAll sweep es (running ks ρs z) ≡ running ks′ ρs′ z′ → (z′ ≡ effect es z) × (z ≤ 49152 → z′ ≤ 49152)
 book-size sweep es ks ks′ ρs ρs′ z z′ e = subst (Sized z (effect es z)) e (books-size sweep es (running ks ρs z) z z (refl, λ h. h))
 
--- ---- the text that a run gives
+-- ---- the text that a run gives, with x bytes beside it
 
-module _ (key : ℕ) (P : Policy) (s : Separators) (cr : Bool) (ss : List Segment) (c : Chained ss) (f : FieldsFirst ss) where
-  abbrev before : ℕ
-  before = length (printSegments s cr ss)
-
-  pub size-before-sweep : Sized before (length (printSegments s cr (beforeSweep key s P ss))) (bookBeforeSweep key s P cr ss)
+module _ (key : ℕ) (P : Policy) (s : Separators) (cr : Bool) (ss : List Segment) (c : Chained ss) (f : FieldsFirst ss)
+    (x z : ℕ) (q : z ≡ x + length (printSegments s cr ss)) where
+  pub size-before-sweep : Sized z (x + length (printSegments s cr (beforeSweep key s P ss))) (bookBeforeSweep z key s P ss)
   unfolding bookBeforeSweep
   size-before-sweep =
-      rw (moves-alone (eventsBeforeSweep key s P ss) _ _ (before-sweep-size key s cr P ss c f)) at
-      (books-size (P .sweep) (eventsBeforeSweep key s P ss) (running [] [] before) before before (refl, λ h. h))
+      rw (before-sweep-size key s cr P ss c f x z q) at
+      (books-size (P .sweep) (eventsBeforeSweep key s P ss) (running [] [] z) z z (refl, λ h. h))
 
-  fits-limit : before ≤ 49152 → (B : Book) (zs : List Segment) (u : Text) (ρs : List Row) → Sized before (length (printSegments s cr zs)) B
-      → redactedAs s cr B zs ≡ done u ρs → length u ≤ 49152
+  fits-limit : z ≤ 49152 → (B : Book) (zs : List Segment) (u : Text) (ρs : List Row) → Sized z (x + length (printSegments s cr zs)) B
+      → redactedAs s cr B zs ≡ done u ρs → x + length u ≤ 49152
   unfolding redactedAs
-  fits-limit h (running ks σs z) zs u ρs k e = let q : printSegments s cr zs ≡ u = cc e in rw (← q) (rw (k .0) at (k .1 h))
+  fits-limit h (running ks σs y) zs u ρs k e = let q : printSegments s cr zs ≡ u = cc e in rw (← q) (rw (k .0) at (k .1 h))
   fits-limit h (stopped n) zs u ρs k e = let q : true ≡ false = cc in clash q
 
-  pub run-fits : before ≤ 49152 → (ks : List Known) (u : Text) (ρs : List Row)
-      → swept key s P cr ks (bookBeforeSweep key s P cr ss) (beforeSweep key s P ss) ≡ done u ρs → length u ≤ 49152
+  pub run-fits : z ≤ 49152 → (ks : List Known) (u : Text) (ρs : List Row)
+      → swept key s P cr ks (bookBeforeSweep z key s P ss) (beforeSweep key s P ss) ≡ done u ρs → x + length u ≤ 49152
   unfolding swept
   run-fits h ks u ρs e =
       let es = segmentsEvents (unnamedEvents key s (forSweep s ks)) (beforeSweep key s P ss) in
-      fits-limit h (bookAll (P .sweep) es (bookBeforeSweep key s P cr ss)) _ u ρs
-      (rw (moves-alone es _ _ (unnamed-sizes key s cr (forSweep s ks) (beforeSweep key s P ss))) at
-      (books-size (P .sweep) es (bookBeforeSweep key s P cr ss) before _ size-before-sweep)) e
+      fits-limit h (bookAll (P .sweep) es (bookBeforeSweep z key s P ss)) _ u ρs
+      (rw (unnamed-sizes key s cr (forSweep s ks) (beforeSweep key s P ss) x _ refl) at
+      (books-size (P .sweep) es (bookBeforeSweep z key s P ss) z _ size-before-sweep)) e
 
 message-size : (t : Text) → messageFault t ≡ none → length (printMessage (messageOf t)) ≤ 49152
 unfolding tooLong
 message-size t e = rw (message-prints t e) (let h = ltb-false 32768 (length t) (faultless t e .not-too-long) in omega arith)
 
 pub redacted-fits : (key : ℕ) (P : Policy) (t : Text) → messageFault t ≡ none → (u : Text) (ρs : List Row) → redact key P (messageOf t) ≡ done u ρs → length u ≤ 49152
-unfolding redact printMessage
+unfolding redact redactFrom printMessage
 redacted-fits key P t e u ρs h =
-    run-fits key P _ _ _ (message-chains t) (message-fields-first t e) (message-size t e) _ u ρs h
+    omega (arith, run-fits key P _ _ _ (message-chains t) (message-fields-first t e) 0 _ (omega arith) (message-size t e) _ u ρs h)

@@ -13,12 +13,14 @@ use Rattle.er7.specs.declared.separators.Separators.{Separators}
 use Rattle.er7_redact.specs.Policy.{Rule}
 use Rattle.message_model.specs.Message.{Leaf, Label, Segment, Message, printSegments}
 use Rattle.policy_model.specs.Policy.{Policy}
-use Rattle.run_model.specs.Redact.{Row, Event, unnamedLeaf, unnamedEvents, overSegments, segmentsEvents, Known, Book, running, stopped, knownBytes, bookAll, knownIn, afterRules, rulesEvents, forPosture, beforeSweep, eventsBeforeSweep, bookBeforeSweep, Redacted, done, refused, redactedAs, swept, redact}
-use Rattle.run_model.specs.Table.{rowsOf, overflows, exceeds}
+use Rattle.run_model.specs.Redact.{Row, overSegments, unnamedLeaf, afterRules, rulesEvents, forPosture, forSweep, beforeSweep, eventsBeforeSweep, Redacted, done, redactFrom, redact}
+use Rattle.run_model.specs.Table.{rowsOf, eventsOf, learntIn}
+use Rattle.run_model.specs.Counts.{postureTurn, sweepTurn, countsOf, textAfter}
 use Rattle.run_model.specs.Demand.{textAt, SettledAt, Learnt, NotInSegments, AlikeLeaves, AlikeSegments, Alike, Settled, Unswept}
-use Rattle.run_model.proofs.InStep.{SameShape, SameShapes, live, rows-append, Good, in-step}
-use Rattle.run_model.proofs.Learning.{AllKnown, Learns, learns-append, learns-of, learns-segs, still-segs}
-use Rattle.run_model.proofs.Booked.{known, BookIs, book-is, known-all-learnt}
+use Rattle.run_model.proofs.InStep.{SameShape, SameShapes, live, rows-append, Good, in-step, counts-in-step}
+use Rattle.run_model.proofs.Learning.{Learns, learns-append, learns-of, learns-segs, still-segs}
+use Rattle.run_model.proofs.Booked.{known-all-learnt, run-is}
+use Rattle.run_model.proofs.Units.{done-is}
 
 abbrev pub Accepted : Redacted → Type 0
 Accepted a = (t : Text) × (ρs : List Row) × (a ≡ done t ρs)
@@ -38,9 +40,8 @@ abbrev SweptNothing : ℕ → Policy → List Segment → Separators → Type 0
 SweptNothing key P ss s = (v : Text) → Learnt key s (P .rules) ss v → NotInSegments s v (beforeSweep key s P ss)
 
 module _ (key : ℕ) (P : Policy) (s : Separators) (cr : Bool) where
-  -- `redact`, of the message's parts
-  abbrev whole-run : List Segment → Redacted
-  whole-run ss = swept key s P cr (knownIn (bookBeforeSweep key s P cr ss)) (bookBeforeSweep key s P cr ss) (beforeSweep key s P ss)
+  abbrev message : List Segment → Message
+  message ss = record { separators = s; segments = ss; lastCR = cr }
 
   abbrev SweepOk : List Segment → Type 0
   SweepOk ss = T (not (P .sweep)) ⊎ SweptNothing key P ss s
@@ -48,71 +49,68 @@ module _ (key : ℕ) (P : Policy) (s : Separators) (cr : Bool) where
   abbrev Unfound : List Segment → Text → Type 0
   Unfound ss v = NotInSegments s v (beforeSweep key s P ss)
 
-  run-book : (ss : List Segment)
-      → BookIs (known (P .sweep) [] (eventsBeforeSweep key s P ss)) (rowsOf (eventsBeforeSweep key s P ss))
-      (overflows (length (printSegments s cr ss)) (eventsBeforeSweep key s P ss)) (bookBeforeSweep key s P cr ss)
-  unfolding bookBeforeSweep
-  run-book ss = book-is (P .sweep) (eventsBeforeSweep key s P ss) [] [] (length (printSegments s cr ss)) (unfold exceeds knownBytes in refl)
-
   run-learns : (ss : List Segment) → SweptNothing key P ss s → Learns (Unfound ss) (eventsBeforeSweep key s P ss)
   unfolding eventsBeforeSweep
   run-learns ss q =
       learns-append (Unfound ss) (rulesEvents key s (P .rules) ss) _ (learns-of (Unfound ss) (rulesEvents key s (P .rules) ss) (λ v a m. q v (a, m)))
       (learns-segs key s (Unfound ss) (forPosture (P .posture)) (afterRules key s (P .rules) ss))
 
-  known-book : (Q : Text → Type 0) (L : List Known) (σ : List Row) (o : Bool) (B : Book) → BookIs L σ o B → AllKnown Q L → AllKnown Q (knownIn B)
-  unfolding knownIn
-  known-book Q L σ o (running ks ρs z) h k = rw (h .0) k
-  known-book Q L σ o (stopped e) h k = tt
-
-  run-known : (ss : List Segment) → SweepOk ss → AllKnown (Unfound ss) (knownIn (bookBeforeSweep key s P cr ss))
-  run-known ss ok =
-      known-book (Unfound ss) _ _ _ (bookBeforeSweep key s P cr ss) (run-book ss)
+  -- the sweep finds nothing
+  still : (ss : List Segment) → SweepOk ss
+      → (overSegments (unnamedLeaf key s (forSweep s (learntIn key P (message ss)))) (beforeSweep key s P ss) ≡ beforeSweep key s P ss) × (sweepTurn key P (message ss) ≡ [])
+  unfolding sweepTurn learntIn
+  still ss ok =
+      still-segs key s _ (beforeSweep key s P ss)
       (known-all-learnt (Unfound ss) (eventsBeforeSweep key s P ss) (P .sweep) (⊎-elim inl (λ q. inr (run-learns ss q)) ok))
 
-  -- with nothing swept the run is the book and the segments before the sweep
-  run-is : (ss : List Segment) → SweepOk ss → whole-run ss ≡ redactedAs s cr (bookBeforeSweep key s P cr ss) (beforeSweep key s P ss)
-  unfolding swept bookAll
-  run-is ss ok =
-      let e = still-segs key s (knownIn (bookBeforeSweep key s P cr ss)) (beforeSweep key s P ss) (run-known ss ok) in
-      ap₂ (λ (es : List Event) (zs : List Segment). redactedAs s cr (bookAll (P .sweep) es (bookBeforeSweep key s P cr ss)) zs) (e .1) (e .0)
+  module _ (a b : List Segment) (v : SameShapes a b) (H : (i j : ℕ) → Good key s (P .rules) a b i j) (qa : SweepOk a) (qb : SweepOk b) where
+    core-text : textAfter key P (message a) ≡ textAfter key P (message b)
+    unfolding textAfter beforeSweep
+    core-text = rw (still a qa .0, still b qb .0, in-step key s (P .rules) a b v H .0)
 
-  book-done : (L : List Known) (σ : List Row) (o : Bool) (B : Book) (ss : List Segment) → BookIs L σ o B → Accepted (redactedAs s cr B ss)
-      → redactedAs s cr B ss ≡ done (printSegments s cr ss) σ
-  unfolding redactedAs
-  book-done L σ o (running ks ρs z) ss h k = ap (done (printSegments s cr ss)) (h .1)
-  book-done L σ o (stopped n) ss h k = let e : refused n ≡ done (k .0) (k .1) = k .2 in cc
+    core-rows : rowsOf (eventsOf key P (message a)) ≡ rowsOf (eventsOf key P (message b))
+    unfolding eventsOf eventsBeforeSweep sweepTurn
+    core-rows = rw (still a qa .1, still b qb .1) (simp (rows-append) (rw (in-step key s (P .rules) a b v H .0, in-step key s (P .rules) a b v H .1)))
 
-  run-done : (ss : List Segment) → SweepOk ss → Accepted (whole-run ss) → whole-run ss ≡ done (printSegments s cr (beforeSweep key s P ss)) (rowsOf (eventsBeforeSweep key s P ss))
-  run-done ss ok acc =
-      run-is ss ok ∙ book-done _ _ _ (bookBeforeSweep key s P cr ss) (beforeSweep key s P ss) (run-book ss) (subst Accepted (run-is ss ok) acc)
+    core-counts : countsOf key P (message a) ≡ countsOf key P (message b)
+    unfolding countsOf postureTurn
+    core-counts = rw (counts-in-step key s (P .rules) a b v H, in-step key s (P .rules) a b v H .0, still a qa .1, still b qb .1)
 
-  core : (a b : List Segment) → SameShapes a b → ((i j : ℕ) → Good key s (P .rules) a b i j)
-      → SweepOk a → SweepOk b → Accepted (whole-run a) → Accepted (whole-run b) → whole-run a ≡ whole-run b
-  unfolding beforeSweep eventsBeforeSweep
-  core a b v H qa qb ka kb =
-      let e = in-step key s (P .rules) a b v H in
-      let says : List Segment → List Event = segmentsEvents (unnamedEvents key s (forPosture (P .posture))) in
-      run-done a qa ka
-      ∙ ap₂ (λ (zs : List Segment) (xs : List Row). done (printSegments s cr (overSegments (unnamedLeaf key s (forPosture (P .posture))) zs)) xs)
-      (e .0)
-      (rows-append (rulesEvents key s (P .rules) a) (says (afterRules key s (P .rules) a))
-      ∙ ap₂ (λ (x : List Row) (zs : List Segment). x ++ rowsOf (says zs)) (e .1) (e .0)
-      ∙ sym (rows-append (rulesEvents key s (P .rules) b) (says (afterRules key s (P .rules) b))))
-      ∙ sym (run-done b qb kb)
+accepted-is : (z key : ℕ) (P : Policy) (m : Message) → Accepted (redactFrom z key P m) → redactFrom z key P m ≡ done (textAfter key P m) (rowsOf (eventsOf key P m))
+accepted-is z key P m (t, ρs, e) = let f = done-is z key P m _ (run-is z key P m) t ρs e in e ∙ ap₂ done (f .2) (f .3)
+
+module _ (key : ℕ) (P : Policy) (a b : Message) (e : a .separators ≡ b .separators) (alike : Alike (P .rules) a b)
+    (settled : Settled key P a b) (quiet : Unswept key P a b) where
+  good : (i j : ℕ) → Good key (a .separators) (P .rules) (a .segments) (b .segments) i j
+  good i j =
+      ⊎-elim inl (λ d. inr (subst (λ (z : Separators). SettledAt key (a .separators) z (P .rules) (a .segments) (b .segments) i j) (sym e) (settled i j d)))
+      (differ (textAt (a .segments) i j) (textAt (b .segments) i j))
+
+  quiet-first : SweepOk key P (a .separators) (a .lastCR) (a .segments)
+  quiet-first = ⊎-elim inl (λ q. inr (q .0)) quiet
+
+  quiet-second : SweepOk key P (a .separators) (a .lastCR) (b .segments)
+  quiet-second = ⊎-elim inl (λ q. inr (subst (SweptNothing key P (b .segments)) (sym e) (q .1))) quiet
+
+  -- what was proved of b with a's delimiters and last CR
+  of-second : {X : Type 0} (f : Message → X) → f (record { separators = a .separators; segments = b .segments; lastCR = a .lastCR }) ≡ f b
+  of-second f = ap₂ (λ (z : Separators) (cr : Bool). f (record { separators = z; segments = b .segments; lastCR = cr })) e (alike .lastCR)
+
+  -- two runs that begin with x and y bytes
+  pub two-units : (x y : ℕ) → Accepted (redactFrom x key P a) → Accepted (redactFrom y key P b) → redactFrom x key P a ≡ redactFrom y key P b
+  two-units x y ka kb =
+      accepted-is x key P a ka
+      ∙ ap₂ done
+      (core-text key P (a .separators) (a .lastCR) (a .segments) (b .segments) (segments-shape (alike .segments)) good quiet-first quiet-second ∙ of-second (textAfter key P))
+      (core-rows key P (a .separators) (a .lastCR) (a .segments) (b .segments) (segments-shape (alike .segments)) good quiet-first quiet-second ∙ of-second (λ m. rowsOf (eventsOf key P m)))
+      ∙ sym (accepted-is y key P b kb)
+
+  pub two-counts : countsOf key P a ≡ countsOf key P b
+  two-counts =
+      core-counts key P (a .separators) (a .lastCR) (a .segments) (b .segments) (segments-shape (alike .segments)) good quiet-first quiet-second
+      ∙ of-second (countsOf key P)
 
 pub two-messages : (key : ℕ) (P : Policy) (a b : Message) → a .separators ≡ b .separators → Alike (P .rules) a b
     → Settled key P a b → Unswept key P a b → Accepted (redact key P a) → Accepted (redact key P b) → redact key P a ≡ redact key P b
 unfolding redact
-two-messages key P a b e alike settled quiet ka kb =
-    let s : Separators = a .separators in
-    let other : whole-run key P (b .separators) (b .lastCR) (b .segments) ≡ whole-run key P s (a .lastCR) (b .segments) =
-    ap₂ (λ (z : Separators) (cr : Bool). whole-run key P z cr (b .segments)) (sym e) (sym (alike .lastCR)) in
-    core key P s (a .lastCR) (a .segments) (b .segments) (segments-shape (alike .segments))
-    (λ i j. ⊎-elim inl (λ d. inr (subst (λ (z : Separators). SettledAt key s z (P .rules) (a .segments) (b .segments) i j) (sym e) (settled i j d)))
-    (differ (textAt (a .segments) i j) (textAt (b .segments) i j)))
-    (⊎-elim inl (λ q. inr (q .0)) quiet)
-    (⊎-elim inl (λ q. inr (subst (SweptNothing key P (b .segments)) (sym e) (q .1))) quiet)
-    ka
-    (subst Accepted other kb)
-    ∙ sym other
+two-messages key P a b e alike settled quiet = two-units key P a b e alike settled quiet _ _

@@ -2,3 +2,4 @@ pub mod Redact
 pub mod Entries
 pub mod Table
 pub mod Demand
+pub mod Counts

@@ -14,7 +14,7 @@ use Rattle.er7_redact.specs.Action.{Action, isKeep, isNullAction, printAction, 
 use Rattle.er7_redact.specs.Policy.{Rule, Posture, accept, reject}
 use Rattle.refusal.specs.declared.Refusal.{Refusal}
 use Rattle.refusal.specs.declared.Refusal.the-variants.{TooMuchLearnt, MessageTooLong}
-use Rattle.message_model.specs.Message.{Leaf, leaf, Label, Segment, segment, Message, touchable, printSegments}
+use Rattle.message_model.specs.Message.{Leaf, leaf, Label, Segment, segment, Message, touchable, printSegments, printMessage}
 use Rattle.message_model.specs.Value.{NULL, isNull, isEmptyOrNull, value, encode, isWholeWord}
 use Rattle.policy_model.specs.Policy.{Policy}
 
@@ -280,9 +280,9 @@ unfoldable pub eventsBeforeSweep : ℕ → Separators → Policy → List Segmen
 eventsBeforeSweep key s P ss =
     rulesEvents key s (P .rules) ss ++ segmentsEvents (unnamedEvents key s (forPosture (P .posture))) (afterRules key s (P .rules) ss)
 
-unfoldable pub bookBeforeSweep : ℕ → Separators → Policy → Bool → List Segment → Book
-bookBeforeSweep key s P cr ss =
-    bookAll (P .sweep) (eventsBeforeSweep key s P ss) (running [] [] (length (printSegments s cr ss)))
+-- z bytes are there when the run begins: the message's, and those beside it in its file
+unfoldable pub bookBeforeSweep : ℕ → ℕ → Separators → Policy → List Segment → Book
+bookBeforeSweep z key s P ss = bookAll (P .sweep) (eventsBeforeSweep key s P ss) (running [] [] z)
 
 -- the message's text and its rows, or a refusal
 pub data Redacted : Type 0 where
@@ -299,11 +299,15 @@ swept key s P cr ks b ss =
     redactedAs s cr (bookAll (P .sweep) (segmentsEvents (unnamedEvents key s (forSweep s ks)) ss) b)
     (overSegments (unnamedLeaf key s (forSweep s ks)) ss)
 
-unfoldable pub redact : ℕ → Policy → Message → Redacted
-redact key P m =
+unfoldable pub redactFrom : ℕ → ℕ → Policy → Message → Redacted
+redactFrom z key P m =
     let s = m .separators in
-    let b = bookBeforeSweep key s P (m .lastCR) (m .segments) in
+    let b = bookBeforeSweep z key s P (m .segments) in
     swept key s P (m .lastCR) (knownIn b) b (beforeSweep key s P (m .segments))
+
+-- a message by itself: nothing stands beside it
+unfoldable pub redact : ℕ → Policy → Message → Redacted
+redact key P m = redactFrom (length (printMessage m)) key P m
 
 -- ---- the report: "A row is the full path, a blank, the action, LF"
 

@@ -119,11 +119,11 @@ exceeds ks = ltb 512 (length ks) || ltb 16384 (knownBytes ks)
 
 -- "sweep on, and .."; "a change leaves the message over 49,152 bytes"; "report longer than
 -- its buffer"
-unfoldable pub runRow : Lent → ℕ → Policy → Message → Refusal → Bool
-runRow b key P m e =
+unfoldable pub runRow : ℕ → Lent → ℕ → Policy → Message → Refusal → Bool
+runRow z b key P m e =
     let ks = learntIn key P m in
     let es = eventsOf key P m in
-    is e TooMuchLearnt && exceeds ks || is e MessageTooLong && overflows (length (printMessage m)) es
+    is e TooMuchLearnt && exceeds ks || is e MessageTooLong && overflows z es
     || is e ReportTooLong && ltb (b .report) (length (printRows (rowsOf es)))
 
 -- ---- the five entries
@@ -131,7 +131,7 @@ runRow b key P m e =
 unfoldable pub rowOfRedact : Lent → Text → Text → ℕ → Refusal → Bool
 rowOfRedact b message policy key e =
     bufferRow b e || (policyRow policy e || (messageRow message e
-    || withPolicyRow (readPolicy policy) λ P. runRow b key P (messageOf message) e))
+    || withPolicyRow (readPolicy policy) λ P. runRow (length (printMessage (messageOf message))) b key P (messageOf message) e))
 
 unfoldable pub rowOfPrint : Lent → Text → Refusal → Bool
 rowOfPrint b policy e = bufferRow b e || policyRow policy e

@@ -6,7 +6,7 @@ use lib.ListN.{length-replicate}
 use Rattle.text.proofs.Spelling.{hexadecimal-length}
 use Rattle.text.proofs.Writes.{wrote-none}
 use Rattle.er7_redact.specs.Action.{apply, asAction, room}
-use Rattle.er7_redact.specs.Pseudonym as P
+use Rattle.pseudonym.specs.Pseudonym as P
 use Rattle.er7_redact.proofs.Actions.{applied-nothing, applied-text}
 
 enum-told : tie.Need-enum-told

@@ -32,7 +32,7 @@ render-requires : tie.Need-render-requires
 render-requires c κs = ((c .before .before .before .before .before .before .before .before .before .pre .0, c .before .before .before .before .before .before .before .before .before .pre .1, c .before .before .before .before .before .before .before .before .before .pre .2 .good), omega (arith, c .before .before .before .before .before .before .before .before .before .pre .2 .most, c .before .before .before .before .before .before .before .before .before .pre .3))
 
 finish-requires : tie.Need-finish-requires
-finish-requires c κs = (omega (arith, c .before .before .before .before .before .render .ensures .high, wrote-length (c .before .before .before .before .before .render .ensures)), omega (arith, c .before .before .before .before .before .before .before .if1 .left))
+finish-requires c κs = (omega (arith, c .before .before .before .before .before .render .ensures .high, wrote-length (c .before .before .before .before .before .render .ensures)), omega (arith, c .before .before .before .before .before .before .before .before .if1 .left))
 
 same-length-4 : tie.Need-same-length-4
 same-length-4 c = search needs
@@ -44,7 +44,7 @@ same-length-6 : tie.Need-same-length-6
 same-length-6 c = search needs
 
 returns-2 : tie.Need-returns-2
-returns-2 c = λ key P message g. c .before .before .before .before .before .before .finish .ensures _ (g .rows) (wrote-taken (c .before .before .before .before .before .before .before .before .before .before .before .before .render .ensures)) (g .reported .text (omega (arith, c .before .before .before .before .before .before .before .before .before .before .before .before .before .before .if1 .left))) (g .count) ∙ same-lent _ _ _ (wrote-length (c .before .before .before .before .before .before .before .before .before .before .before .before .render .ensures)) ∙ ap (outcome _) (report-fits g _ _ (omega (arith, c .before .before .before .before .before .before .before .before .before .before .before .before .before .before .if1 .left)))
+returns-2 c = λ key P message g. c .before .before .before .before .before .before .finish .ensures _ (g .rows) (wrote-taken (c .before .before .before .before .before .before .before .before .before .before .before .before .render .ensures)) (g .reported .text (omega (arith, c .before .before .before .before .before .before .before .before .before .before .before .before .before .before .before .if1 .left))) (g .count) ∙ same-lent _ _ _ (wrote-length (c .before .before .before .before .before .before .before .before .before .before .before .before .render .ensures)) ∙ ap (outcome _) (report-fits g _ _ (omega (arith, c .before .before .before .before .before .before .before .before .before .before .before .before .before .before .before .if1 .left)))
 
 pub hand-back-spec : {M : Type 1} → statement M
 hand-back-spec =

@@ -1,3 +1,4 @@
+use mathlib.Core.Path.{refl}
 use native.Mathlib.Omega.{arith}
 use borrow.Author.Needs.{needs}
 use Rattle.redact.proofs.redact.redact_read.Statement.{statement}
@@ -13,26 +14,14 @@ use Prim.Native.Nat.{ℕ}
 use Rattle.run_model.specs.Entries.{outcome}
 use Rattle.redact.proofs.Laws.{ran-printable, run-going, run-refused, same-reported, same-refused}
 
-slice-aggregate-run-all : tie.Need-slice-aggregate-run-all
-slice-aggregate-run-all c = search needs
-
-slice-aggregate-run-all-2 : tie.Need-slice-aggregate-run-all-2
-slice-aggregate-run-all-2 c = search needs
-
-slice-aggregate-run-all-3 : tie.Need-slice-aggregate-run-all-3
-slice-aggregate-run-all-3 c = search needs
-
 run-all-requires : tie.Need-run-all-requires
-run-all-requires c κs = (c .before .before .before .before .before .before .before .before .before .before .before .before .before .before .pre .0, record { no-fault = c .before .before .before .before .before .before .before .before .before .before .before .before .before .before .pre .1 .no-fault; standing = c .before .before .before .before .before .before .before .before .before .before .before .before .before .before .pre .1 .standing; named = c .before .before .before .before .before .before .before .before .before .before .before .before .before .before .pre .1 .named; policy-short = c .before .before .before .before .before .before .before .before .before .before .before .before .before .before .pre .1 .policy-short; wide = omega (arith, length-replicate {A = ℕ} 147456 0); narrow = omega (arith, length-replicate {A = ℕ} 147456 0); value-room = c .before .before .before .before .before .before .before .before .before .before .before .before .before .before .pre .2; new-room = c .before .before .before .before .before .before .before .before .before .before .before .before .before .before .pre .3; bytes-room = omega (arith, length-replicate {A = ℕ} 16384 0); known-room = omega (arith, length-replicate {A = ℕ} 4096 0) })
+run-all-requires c κs = (c .before .before .before .before .before .before .before .before .before .before .before .before .before .before .pre .0, record { no-fault = c .before .before .before .before .before .before .before .before .before .before .before .before .before .before .pre .1 .no-fault; standing = c .before .before .before .before .before .before .before .before .before .before .before .before .before .before .pre .1 .standing; named = c .before .before .before .before .before .before .before .before .before .before .before .before .before .before .pre .1 .named; policy-short = c .before .before .before .before .before .before .before .before .before .before .before .before .before .before .pre .1 .policy-short })
 
 enum-known-c : tie.Need-enum-known-c
 enum-known-c c = search needs
 
-slice-aggregate-hand-back : tie.Need-slice-aggregate-hand-back
-slice-aggregate-hand-back c = search needs
-
 hand-back-requires : tie.Need-hand-back-requires
-hand-back-requires c κs = (c .before .before .before .before .before .before .before .before .before .before .before .before .before .before .before .before .before .before .before .before .before .before .before .before .before .before .before .before .before .before .before .before .before .before .pre .1 .standing .segmented, c .before .before .before .before .before .before .before .before .before .before .before .before .before .before .before .before .before .before .before .before .before .before .before .before .before .before .before .before .before .before .before .before .before .before .pre .1 .named, ran-printable (run-going (c .before .before .before .before .before .before .before .before .before .before .before .before .before .before .before .before .before .before .before .run-all .ensures) (c .before .before .before .before .before .before .c .given .1)), omega (arith, c .before .before .before .before .before .before .before .before .before .before .before .before .before .before .before .before .before .before .before .before .before .before .before .before .before .before .before .before .before .before .before .before .before .before .pre .2, c .before .before .before .before .before .before .before .before .before .before .before .before .before .output))
+hand-back-requires c κs = (c .before .before .before .before .before .before .before .before .before .before .before .before .before .before .before .before .before .before .before .before .before .before .before .before .before .before .before .pre .1 .standing .segmented, c .before .before .before .before .before .before .before .before .before .before .before .before .before .before .before .before .before .before .before .before .before .before .before .before .before .before .before .pre .1 .named, ran-printable (run-going (c .before .before .before .before .before .before .before .before .before .before .before .before .run-all .ensures) (c .before .before .before .before .before .before .c .given .1)), c .before .before .before .before .before .before .before .before .before .before .before .before .before .before .before .before .before .before .before .before .before .before .before .before .before .before .before .pre .2)
 
 enum-known-refusal : tie.Need-enum-known-refusal
 enum-known-refusal c = search needs
@@ -53,7 +42,7 @@ same-length-4 : tie.Need-same-length-4
 same-length-4 c = search needs
 
 returns : tie.Need-returns
-returns c = c .before .before .before .before .before .before .hand-back .ensures _ _ _ (run-going (c .before .before .before .before .before .before .before .before .before .before .before .before .before .before .before .before .before .before .before .before .before .before .before .before .before .before .run-all .ensures) (c .before .before .before .before .before .before .before .before .before .before .before .before .before .c .given .1)) ∙ same-reported _ (omega (arith, c .before .before .before .before .before .before .before .before .before .before .before .before .before .before .before .before .before .before .before .before .output)) (omega (arith, c .before .before .before .before .before .before .before .before .before .before .before .before .before .before .before .before .before .before .before .before .before .before .report)) (omega (arith, c .before .before .before .before .before .before .before .before .before .before .before .before .before .before .before .before .before .before .scratch))
+returns c = c .before .before .before .before .before .before .hand-back .ensures _ _ _ (run-going (c .before .before .before .before .before .before .before .before .before .before .before .before .before .before .before .before .before .before .before .run-all .ensures) (c .before .before .before .before .before .before .before .before .before .before .before .before .before .c .given .1)) ∙ same-reported _ refl (omega (arith, c .before .before .before .before .before .before .before .before .before .before .before .before .before .before .before .before .report)) refl
 
 same-length-5 : tie.Need-same-length-5
 same-length-5 c = search needs
@@ -68,18 +57,14 @@ same-length-8 : tie.Need-same-length-8
 same-length-8 c = search needs
 
 returns-2 : tie.Need-returns-2
-returns-2 c = c .before .before .before .before .before .before .refuse .ensures ∙ same-refused _ (omega (arith, c .before .before .before .before .before .before .before .before .before .before .before .before .before .before .before .before .before .before .output)) (omega (arith, c .before .before .before .before .before .before .before .before .before .before .before .before .before .before .before .before .before .before .before .before .report)) (omega (arith, c .before .before .before .before .before .before .before .before .before .before .before .before .before .before .before .before .scratch)) ∙ ap (outcome _) (run-refused (c .before .before .before .before .before .before .before .before .before .before .before .before .before .before .before .before .before .before .before .before .before .before .before .before .run-all .ensures) (c .before .before .before .before .before .before .before .before .before .before .before .refusal .given .1) _ _ _)
+returns-2 c = c .before .before .before .before .before .before .refuse .ensures ∙ same-refused _ refl (omega (arith, c .before .before .before .before .before .before .before .before .before .before .before .before .before .before .report)) refl ∙ ap (outcome _) (run-refused (c .before .before .before .before .before .before .before .before .before .before .before .before .before .before .before .before .before .run-all .ensures) (c .before .before .before .before .before .before .before .before .before .before .before .refusal .given .1) _ _ _)
 
 pub redact-read-spec : {M : Type 1} → statement M
 redact-read-spec =
     tie.close
     (tie.spec
-    slice-aggregate-run-all
-    slice-aggregate-run-all-2
-    slice-aggregate-run-all-3
     run-all-requires
     enum-known-c
-    slice-aggregate-hand-back
     hand-back-requires
     enum-known-refusal
     refuse-requires

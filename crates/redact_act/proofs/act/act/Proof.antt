@@ -14,11 +14,8 @@ is-null-requires c κs = search needs
 act-null-requires : tie.Need-act-null-requires
 act-null-requires c κs = search needs
 
-same-length : tie.Need-same-length
-same-length c = search needs
-
 returns : tie.Need-returns
-returns c = acted-as (act-null _ _ _ _ (sym (c .before .before .before .before .before .is-null .ensures _) ∙ c .before .before .before .before .if1 .taken)) (c .before .before .act-null .ensures)
+returns c = acted-as (act-null _ _ _ _ (sym (c .before .before .before .is-null .ensures _) ∙ c .before .before .if1 .taken)) (c .act-null .ensures)
 
 add-end : tie.Need-add-end
 add-end c = search needs
@@ -35,26 +32,14 @@ part-is-empty-or-null-end c = search needs
 is-empty-or-null-requires : tie.Need-is-empty-or-null-requires
 is-empty-or-null-requires c κs = search needs
 
-same-length-2 : tie.Need-same-length-2
-same-length-2 c = search needs
-
 returns-2 : tie.Need-returns-2
-returns-2 c = acted-stays _ _ _ _ (act-empty _ _ _ _ (sym (c .before .before .before .before .before .is-null .ensures _) ∙ c .before .before .before .before .if1 .left) (ap isEmptyOrNull (sym (part-slice _ _ _)) ∙ sym (c .before .is-empty-or-null .ensures) ∙ c .if2 .taken))
+returns-2 c = acted-stays _ _ _ _ (act-empty _ _ _ _ (sym (c .before .before .before .before .before .before .is-null .ensures _) ∙ c .before .before .before .before .before .if1 .left) (ap isEmptyOrNull (sym (part-slice _ _ _)) ∙ sym (c .before .is-empty-or-null .ensures) ∙ c .if2 .taken))
 
 act-value-requires : tie.Need-act-value-requires
 act-value-requires c κs = search needs
 
-same-length-3 : tie.Need-same-length-3
-same-length-3 c = search needs
-
-same-length-4 : tie.Need-same-length-4
-same-length-4 c = search needs
-
-same-length-5 : tie.Need-same-length-5
-same-length-5 c = search needs
-
 returns-3 : tie.Need-returns-3
-returns-3 c = acted-as (act-value _ _ _ _ (sym (c .before .before .before .before .before .before .before .before .before .before .before .before .before .before .before .is-null .ensures _) ∙ c .before .before .before .before .before .before .before .before .before .before .before .before .before .before .if1 .left) (ap isEmptyOrNull (sym (part-slice _ _ _)) ∙ sym (c .before .before .before .before .before .before .before .before .before .before .before .is-empty-or-null .ensures) ∙ c .before .before .before .before .before .before .before .before .before .before .if2 .left)) (c .before .before .before .before .before .before .act-value .ensures)
+returns-3 c = acted-as (act-value _ _ _ _ (sym (c .before .before .before .before .before .before .before .before .before .before .is-null .ensures _) ∙ c .before .before .before .before .before .before .before .before .before .if1 .left) (ap isEmptyOrNull (sym (part-slice _ _ _)) ∙ sym (c .before .before .before .before .before .is-empty-or-null .ensures) ∙ c .before .before .before .before .if2 .left)) (c .act-value .ensures)
 
 pub act-spec : {M : Type 1} → statement M
 act-spec =
@@ -62,17 +47,12 @@ act-spec =
     (tie.spec
     is-null-requires
     act-null-requires
-    same-length
     returns
     add-end
     sub-is-empty-or-null
     part-is-empty-or-null-start
     part-is-empty-or-null-end
     is-empty-or-null-requires
-    same-length-2
     returns-2
     act-value-requires
-    same-length-3
-    same-length-4
-    same-length-5
     returns-3)

@@ -23,20 +23,14 @@ part-is-null-end c = search needs
 is-null-requires : tie.Need-is-null-requires
 is-null-requires c κs = search needs
 
-same-length : tie.Need-same-length
-same-length c = search needs
-
 returns : tie.Need-returns
 returns c = acted-stays _ _ _ _ (nulled-null _ (ap isNull (sym (part-slice _ _ _)) ∙ sym (c .before .is-null .ensures) ∙ c .if1 .taken))
 
 put-null-requires : tie.Need-put-null-requires
 put-null-requires c κs = search needs
 
-same-length-2 : tie.Need-same-length-2
-same-length-2 c = search needs
-
 returns-2 : tie.Need-returns-2
-returns-2 c = acted-as (nulled-other _ (ap isNull (sym (part-slice _ _ _)) ∙ sym (c .before .before .before .before .before .is-null .ensures) ∙ c .before .before .before .before .if1 .left)) (c .before .before .put-null .ensures)
+returns-2 c = acted-as (nulled-other _ (ap isNull (sym (part-slice _ _ _)) ∙ sym (c .before .before .before .is-null .ensures) ∙ c .before .before .if1 .left)) (c .put-null .ensures)
 
 pub act-null-spec : {M : Type 1} → statement M
 act-null-spec =
@@ -47,8 +41,6 @@ act-null-spec =
     part-is-null-start
     part-is-null-end
     is-null-requires
-    same-length
     returns
     put-null-requires
-    same-length-2
     returns-2)

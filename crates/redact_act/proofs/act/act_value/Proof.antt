@@ -33,19 +33,10 @@ part-replace-end : tie.Need-part-replace-end
 part-replace-end c = search needs
 
 replace-requires : tie.Need-replace-requires
-replace-requires c κs = (c .before .before .before .before .before .before .before .before .before .before .before .before .before .before .pre .0, c .before .before .before .before .before .before .before .before .before .before .before .before .before .before .pre .1, omega (arith, value-short _ _ (c .before .before .before .before .before .before .value .ensures) {m = 49152} (simp (length-take, length-drop) (omega arith))), omega arith, omega arith, omega arith, omega arith)
-
-same-length : tie.Need-same-length
-same-length c = search needs
-
-same-length-2 : tie.Need-same-length-2
-same-length-2 c = search needs
-
-same-length-3 : tie.Need-same-length-3
-same-length-3 c = search needs
+replace-requires c κs = (c .before .before .before .before .before .before .before .before .before .before .before .pre .0, c .before .before .before .before .before .before .before .before .before .before .before .pre .1, omega (arith, value-short _ _ (c .before .before .before .before .before .value .ensures) {m = 49152} (simp (length-take, length-drop) (omega arith))), omega arith, omega arith, omega arith)
 
 returns : tie.Need-returns
-returns c = acted-value _ _ (c .before .before .before .before .before .before .before .before .before .before .before .value .ensures) _ _ _ (part-slice _ _ _) (c .before .before .before .before .replace .ensures)
+returns c = acted-value _ _ (c .before .before .before .before .before .before .value .ensures) _ _ _ (part-slice _ _ _) (c .replace .ensures)
 
 pub act-value-spec : {M : Type 1} → statement M
 act-value-spec =
@@ -60,7 +51,4 @@ act-value-spec =
     part-replace-start
     part-replace-end
     replace-requires
-    same-length
-    same-length-2
-    same-length-3
     returns)

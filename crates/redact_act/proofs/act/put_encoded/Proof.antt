@@ -22,20 +22,14 @@ returns c = acted-over _ _ _ _ _ (c .before .encoded-len .ensures .0) (omega ari
 copy-at-requires : tie.Need-copy-at-requires
 copy-at-requires c κs = search needs
 
-same-length : tie.Need-same-length
-same-length c = search needs
-
 returns-2 : tie.Need-returns-2
-returns-2 c = acted-as (ap becomes (encode-same _ _ (sym (c .before .before .before .before .before .before .encoded-len .ensures .0) ∙ c .before .before .before .before .if2 .taken))) (acted-becomes _ _ _ _ _ (c .before .before .before .before .if2 .taken) (omega arith) (c .before .before .copy-at .ensures))
+returns-2 c = acted-as (ap becomes (encode-same _ _ (sym (c .before .before .before .before .encoded-len .ensures .0) ∙ c .before .before .if2 .taken))) (acted-becomes _ _ _ _ _ (c .before .before .if2 .taken) (omega arith) (c .copy-at .ensures))
 
 encode-requires : tie.Need-encode-requires
 encode-requires c κs = search needs
 
-same-length-2 : tie.Need-same-length-2
-same-length-2 c = search needs
-
 returns-3 : tie.Need-returns-3
-returns-3 c = acted-becomes _ _ _ _ _ (c .before .before .before .before .before .before .encoded-len .ensures .0) (omega arith) (c .before .before .encode .ensures)
+returns-3 c = acted-becomes _ _ _ _ _ (c .before .before .before .before .encoded-len .ensures .0) (omega arith) (c .encode .ensures)
 
 pub put-encoded-spec : {M : Type 1} → statement M
 put-encoded-spec =
@@ -46,8 +40,6 @@ put-encoded-spec =
     add-if1
     returns
     copy-at-requires
-    same-length
     returns-2
     encode-requires
-    same-length-2
     returns-3)

@@ -25,12 +25,9 @@ slice-aggregate-copy-at c = search needs
 copy-at-requires : tie.Need-copy-at-requires
 copy-at-requires c κs = search needs
 
-same-length : tie.Need-same-length
-same-length c = search needs
-
 returns-2 : tie.Need-returns-2
 unfolding NULL bytes
-returns-2 c = acted-becomes NULL _ _ _ _ refl (omega arith) (c .before .before .copy-at .ensures)
+returns-2 c = acted-becomes NULL _ _ _ _ refl (omega arith) (c .copy-at .ensures)
 
 pub put-null-spec : {M : Type 1} → statement M
 put-null-spec =
@@ -41,5 +38,4 @@ put-null-spec =
     returns
     slice-aggregate-copy-at
     copy-at-requires
-    same-length
     returns-2)

@@ -15,12 +15,14 @@ returns c = acted-stays _ _ _ _ (replaced-same _ _ _ (sym (c .before .same-bytes
 put-encoded-requires : tie.Need-put-encoded-requires
 put-encoded-requires c κs = search needs
 
-same-length : tie.Need-same-length
-same-length c = search needs
-
 returns-2 : tie.Need-returns-2
-returns-2 c = acted-as (replaced-other _ _ _ (sym (c .before .before .before .before .before .same-bytes .ensures) ∙ c .before .before .before .before .if1 .left)) (c .before .before .put-encoded .ensures)
+returns-2 c = acted-as (replaced-other _ _ _ (sym (c .before .before .before .same-bytes .ensures) ∙ c .before .before .if1 .left)) (c .put-encoded .ensures)
 
 pub put-other-spec : {M : Type 1} → statement M
 put-other-spec =
-    tie.close (tie.spec same-bytes-requires returns put-encoded-requires same-length returns-2)
+    tie.close
+    (tie.spec
+    same-bytes-requires
+    returns
+    put-encoded-requires
+    returns-2)

@@ -14,8 +14,8 @@ add-action-of c = search needs
 mul-action-of : tie.Need-mul-action-of
 mul-action-of c = search needs
 
-shared-slice-read-action-of : tie.Need-shared-slice-read-action-of
-shared-slice-read-action-of c = search needs
+element-copy-out-action-of : tie.Need-element-copy-out-action-of
+element-copy-out-action-of c = search needs
 
 add-action-of-2 : tie.Need-add-action-of-2
 add-action-of-2 c = search needs
@@ -23,8 +23,8 @@ add-action-of-2 c = search needs
 mul-action-of-2 : tie.Need-mul-action-of-2
 mul-action-of-2 c = search needs
 
-shared-slice-read-action-of-2 : tie.Need-shared-slice-read-action-of-2
-shared-slice-read-action-of-2 c = search needs
+element-copy-out-action-of-2 : tie.Need-element-copy-out-action-of-2
+element-copy-out-action-of-2 c = search needs
 
 add-action-of-3 : tie.Need-add-action-of-3
 add-action-of-3 c = search needs
@@ -32,8 +32,8 @@ add-action-of-3 c = search needs
 mul-action-of-3 : tie.Need-mul-action-of-3
 mul-action-of-3 c = search needs
 
-shared-slice-read-action-of-3 : tie.Need-shared-slice-read-action-of-3
-shared-slice-read-action-of-3 c = search needs
+element-copy-out-action-of-3 : tie.Need-element-copy-out-action-of-3
+element-copy-out-action-of-3 c = search needs
 
 action-of-requires : tie.Need-action-of-requires
 action-of-requires c κs = search needs
@@ -49,12 +49,12 @@ action-at-spec =
     mul-row
     add-action-of
     mul-action-of
-    shared-slice-read-action-of
+    element-copy-out-action-of
     add-action-of-2
     mul-action-of-2
-    shared-slice-read-action-of-2
+    element-copy-out-action-of-2
     add-action-of-3
     mul-action-of-3
-    shared-slice-read-action-of-3
+    element-copy-out-action-of-3
     action-of-requires
     returns)

@@ -27,11 +27,8 @@ part-found-end c = search needs
 found-requires : tie.Need-found-requires
 found-requires c κs = search needs
 
-same-length : tie.Need-same-length
-same-length c = search needs
-
 returns-2 : tie.Need-returns-2
-returns-2 c = swept-found _ _ _ _ (sym (c .before .before .before .before .before .before .before .before .is-empty-or-null .ensures) ∙ c .before .before .before .before .before .before .before .if1 .left) (c .before .before .before .before .before .lower-value .ensures) (c .found .ensures)
+returns-2 c = swept-found _ _ _ _ (sym (c .before .before .before .before .before .before .before .is-empty-or-null .ensures) ∙ c .before .before .before .before .before .before .if1 .left) (c .before .before .before .before .lower-value .ensures) (c .found .ensures)
 
 pub for-sweep-spec : {M : Type 1} → statement M
 for-sweep-spec =
@@ -44,5 +41,4 @@ for-sweep-spec =
     part-found-start
     part-found-end
     found-requires
-    same-length
     returns-2)

@@ -18,7 +18,7 @@ loop-holds : tie.Need-loop-holds Inv-loop μ-loop
 loop-holds c = seeking-start
 
 has-value-requires : tie.Need-has-value-requires Inv-loop μ-loop
-has-value-requires c κs = c .before .before .before .before .before .pre .slot _ (omega arith)
+has-value-requires c κs = c .before .before .before .pre .slot _ (omega arith)
 
 returns : tie.Need-returns Inv-loop μ-loop
 returns c = seeking-found (c .before .before .before .loop .inv) (omega arith) (sym (c .before .has-value .ensures) ∙ c .if1 .taken)

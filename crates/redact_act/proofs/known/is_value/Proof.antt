@@ -17,8 +17,8 @@ add-start c = search needs
 mul-start : tie.Need-mul-start
 mul-start c = search needs
 
-shared-slice-read-start : tie.Need-shared-slice-read-start
-shared-slice-read-start c = search needs
+element-copy-out-start : tie.Need-element-copy-out-start
+element-copy-out-start c = search needs
 
 add-end : tie.Need-add-end
 add-end c = search needs
@@ -26,8 +26,8 @@ add-end c = search needs
 mul-end : tie.Need-mul-end
 mul-end c = search needs
 
-shared-slice-read-end : tie.Need-shared-slice-read-end
-shared-slice-read-end c = search needs
+element-copy-out-end : tie.Need-element-copy-out-end
+element-copy-out-end c = search needs
 
 add-end-2 : tie.Need-add-end-2
 add-end-2 c = search needs
@@ -55,10 +55,10 @@ is-value-spec =
     mul-row
     add-start
     mul-start
-    shared-slice-read-start
+    element-copy-out-start
     add-end
     mul-end
-    shared-slice-read-end
+    element-copy-out-end
     add-end-2
     sub-same-bytes
     part-same-bytes-start

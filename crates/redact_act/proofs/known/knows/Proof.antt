@@ -18,7 +18,7 @@ loop-holds : tie.Need-loop-holds Inv-loop μ-loop
 loop-holds c = looking-start
 
 is-value-requires : tie.Need-is-value-requires Inv-loop μ-loop
-is-value-requires c κs = c .before .before .before .before .before .pre .slot _ (omega arith)
+is-value-requires c κs = c .before .before .before .pre .slot _ (omega arith)
 
 returns : tie.Need-returns Inv-loop μ-loop
 returns c = looking-found (c .before .before .before .loop .inv) (omega arith) (sym (c .before .is-value .ensures) ∙ c .if1 .taken)

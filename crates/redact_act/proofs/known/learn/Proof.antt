@@ -12,62 +12,38 @@ use Prim.Native.Nat.{_+_}
 use lib.ListN.{length}
 
 knows-requires : tie.Need-knows-requires
-knows-requires c κs = good-slots (c .before .before .before .before .before .pre .0)
-
-same-length : tie.Need-same-length
-same-length c = search needs
-
-same-length-2 : tie.Need-same-length-2
-same-length-2 c = search needs
+knows-requires c κs = good-slots (c .before .before .before .pre .0)
 
 returns : tie.Need-returns
-returns c = learns-known _ _ (c .before .before .before .before .before .before .before .pre .0) (λ t. sym (c .before .knows .ensures t) ∙ c .if1 .taken)
+returns c = learns-known _ _ (c .before .before .before .before .before .pre .0) (λ t. sym (c .before .knows .ensures t) ∙ c .if1 .taken)
 
 add-end : tie.Need-add-end
 add-end c = search needs
 
-same-length-3 : tie.Need-same-length-3
-same-length-3 c = search needs
-
-same-length-4 : tie.Need-same-length-4
-same-length-4 c = search needs
-
 returns-2 : tie.Need-returns-2
-returns-2 c = learns-full _ _ (c .before .before .before .before .before .before .before .before .pre .0) (λ t. sym (c .before .before .knows .ensures t) ∙ c .before .if1 .left) (c .if2 .taken)
+returns-2 c = learns-full _ _ (c .before .before .before .before .before .before .pre .0) (λ t. sym (c .before .before .knows .ensures t) ∙ c .before .if1 .left) (c .if2 .taken)
 
 copy-at-requires : tie.Need-copy-at-requires
-copy-at-requires c κs = omega (arith, not-much (c .before .before .before .before .before .before .before .before .before .args .n) (c .before .before .before .before .before .before .before .before .before .args .used + length (c .before .before .before .before .before .before .before .before .before .args .v .now)) (c .before .if2 .left))
+copy-at-requires c κs = omega (arith, not-much (c .before .before .before .before .before .before .before .args .n) (c .before .before .before .before .before .before .before .args .used + length (c .before .before .before .before .before .before .before .args .v .now)) (c .before .if2 .left))
 
 put-known-requires : tie.Need-put-known-requires
-put-known-requires c κs = omega (arith, not-many (c .before .before .before .before .before .before .before .before .before .before .before .before .before .args .n) (c .before .before .before .before .before .before .before .before .before .before .before .before .before .args .used + length (c .before .before .before .before .before .before .before .before .before .before .before .before .before .args .v .now)) (c .before .before .before .before .before .if2 .left))
+put-known-requires c κs = omega (arith, not-many (c .before .before .before .before .before .before .before .before .before .args .n) (c .before .before .before .before .before .before .before .before .before .args .used + length (c .before .before .before .before .before .before .before .before .before .args .v .now)) (c .before .before .before .if2 .left))
 
-add-t13 : tie.Need-add-t13
-add-t13 c = search needs
-
-same-length-5 : tie.Need-same-length-5
-same-length-5 c = search needs
-
-same-length-6 : tie.Need-same-length-6
-same-length-6 c = search needs
+add-t11 : tie.Need-add-t11
+add-t11 c = search needs
 
 returns-3 : tie.Need-returns-3
-returns-3 c = learns-more _ _ (c .before .before .before .before .before .before .before .before .before .before .before .before .before .before .before .before .pre .0) (λ t. sym (c .before .before .before .before .before .before .before .before .before .before .knows .ensures t) ∙ c .before .before .before .before .before .before .before .before .before .if1 .left) (c .before .before .before .before .before .before .before .before .if2 .left) (search needs) (c .before .before .before .before .before .before .copy-at .ensures) (c .before .before .put-known .ensures)
+returns-3 c = learns-more _ _ (c .before .before .before .before .before .before .before .before .before .before .pre .0) (λ t. sym (c .before .before .before .before .before .before .knows .ensures t) ∙ c .before .before .before .before .before .if1 .left) (c .before .before .before .before .if2 .left) (c .before .before .copy-at .ensures) (c .put-known .ensures)
 
 pub learn-spec : {M : Type 1} → statement M
 learn-spec =
     tie.close
     (tie.spec
     knows-requires
-    same-length
-    same-length-2
     returns
     add-end
-    same-length-3
-    same-length-4
     returns-2
     copy-at-requires
     put-known-requires
-    add-t13
-    same-length-5
-    same-length-6
+    add-t11
     returns-3)

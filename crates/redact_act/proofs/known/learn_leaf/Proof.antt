@@ -11,22 +11,19 @@ is-keep-requires : tie.Need-is-keep-requires
 is-keep-requires c κs = search needs
 
 returns : tie.Need-returns
-returns c = learns-nothing (c .before .before .before .before .before .before .pre .0) (λ x. leaf-keep _ _ _ x (sym (c .before .is-keep .ensures x) ∙ c .if1 .taken))
+returns c = learns-nothing (c .before .before .before .pre .0) (λ x. leaf-keep _ _ _ x (sym (c .before .is-keep .ensures x) ∙ c .if1 .taken))
 
 is-empty-or-null-requires : tie.Need-is-empty-or-null-requires
 is-empty-or-null-requires c κs = search needs
 
 returns-2 : tie.Need-returns-2
-returns-2 c = learns-nothing (c .before .before .before .before .before .before .before .before .pre .0) (λ x. leaf-empty _ _ _ x (sym (c .before .before .before .is-keep .ensures x) ∙ c .before .before .if1 .left) (sym (c .before .is-empty-or-null .ensures) ∙ c .if2 .taken))
+returns-2 c = learns-nothing (c .before .before .before .before .before .pre .0) (λ x. leaf-empty _ _ _ x (sym (c .before .before .before .is-keep .ensures x) ∙ c .before .before .if1 .left) (sym (c .before .is-empty-or-null .ensures) ∙ c .if2 .taken))
 
 lower-value-requires : tie.Need-lower-value-requires
 lower-value-requires c κs = search needs
 
-same-length : tie.Need-same-length
-same-length c = search needs
-
 returns-3 : tie.Need-returns-3
-returns-3 c = learns-nothing (c .before .before .before .before .before .before .before .before .before .before .before .before .before .pre .0) (λ x. leaf-short _ _ _ x (sym (c .before .before .before .before .before .before .before .before .is-keep .ensures x) ∙ c .before .before .before .before .before .before .before .if1 .left) (sym (c .before .before .before .before .before .before .is-empty-or-null .ensures) ∙ c .before .before .before .before .before .if2 .left) (c .before .before .before .lower-value .ensures) (omega arith))
+returns-3 c = learns-nothing (c .before .before .before .before .before .before .before .before .pre .0) (λ x. leaf-short _ _ _ x (sym (c .before .before .before .before .before .before .is-keep .ensures x) ∙ c .before .before .before .before .before .if1 .left) (sym (c .before .before .before .before .is-empty-or-null .ensures) ∙ c .before .before .before .if2 .left) (c .before .lower-value .ensures) (omega arith))
 
 sub-learn : tie.Need-sub-learn
 sub-learn c = search needs
@@ -38,19 +35,10 @@ part-learn-end : tie.Need-part-learn-end
 part-learn-end c = search needs
 
 learn-requires : tie.Need-learn-requires
-learn-requires c κs = (c .before .before .before .before .before .before .before .before .before .before .before .before .before .before .before .before .before .pre .0, omega (arith, lowered-short _ _ (c .before .before .before .before .before .before .before .lower-value .ensures) (c .before .before .before .before .before .before .before .before .before .before .before .before .before .before .before .before .before .pre .1)))
-
-same-length-2 : tie.Need-same-length-2
-same-length-2 c = search needs
-
-same-length-3 : tie.Need-same-length-3
-same-length-3 c = search needs
-
-same-length-4 : tie.Need-same-length-4
-same-length-4 c = search needs
+learn-requires c κs = (c .before .before .before .before .before .before .before .before .before .before .before .before .before .pre .0, omega (arith, lowered-short _ _ (c .before .before .before .before .before .before .lower-value .ensures) (c .before .before .before .before .before .before .before .before .before .before .before .before .before .pre .1)))
 
 returns-4 : tie.Need-returns-4
-returns-4 c = learns-as (λ x. leaf-learns _ _ _ x (sym (c .before .before .before .before .before .before .before .before .before .before .before .before .before .before .before .before .before .is-keep .ensures x) ∙ c .before .before .before .before .before .before .before .before .before .before .before .before .before .before .before .before .if1 .left) (sym (c .before .before .before .before .before .before .before .before .before .before .before .before .before .before .before .is-empty-or-null .ensures) ∙ c .before .before .before .before .before .before .before .before .before .before .before .before .before .before .if2 .left) (c .before .before .before .before .before .before .before .before .before .before .before .before .lower-value .ensures) (omega arith)) (c .before .before .before .before .learn .ensures)
+returns-4 c = learns-as (λ x. leaf-learns _ _ _ x (sym (c .before .before .before .before .before .before .before .before .before .before .before .before .is-keep .ensures x) ∙ c .before .before .before .before .before .before .before .before .before .before .before .if1 .left) (sym (c .before .before .before .before .before .before .before .before .before .before .is-empty-or-null .ensures) ∙ c .before .before .before .before .before .before .before .before .before .if2 .left) (c .before .before .before .before .before .before .before .lower-value .ensures) (omega arith)) (c .learn .ensures)
 
 pub learn-leaf-spec : {M : Type 1} → statement M
 learn-leaf-spec =
@@ -61,13 +49,9 @@ learn-leaf-spec =
     is-empty-or-null-requires
     returns-2
     lower-value-requires
-    same-length
     returns-3
     sub-learn
     part-learn-start
     part-learn-end
     learn-requires
-    same-length-2
-    same-length-3
-    same-length-4
     returns-4)

@@ -20,7 +20,7 @@ slice-read-if1 c = search needs
 
 returns : tie.Need-returns
 unfolding cell
-returns c = λ key named. rule-gone key _ _ _ _ _ _ _ _ _ named _ _ _ _ _ _ (c .before .before .before .before .before .before .before .before .before .pre .4 .good) (c .before .before .before .before .before .before .before .before .before .pre .4 .most) (c .before .before .before .before .before .before .before .before .before .pre .5) (c .if1 .taken)
+returns c = λ key named. rule-gone key _ _ _ _ _ _ _ _ _ named _ _ _ _ _ _ (c .before .before .before .before .before .pre .4 .good) (c .before .before .before .before .before .pre .4 .most) (c .before .before .before .before .before .pre .5) (c .if1 .taken)
 
 place-at-requires : tie.Need-place-at-requires
 place-at-requires c κs = search needs
@@ -35,7 +35,7 @@ same-length : tie.Need-same-length
 same-length c = search needs
 
 returns-2 : tie.Need-returns-2
-returns-2 c = λ key named. rule-uncovered key _ _ _ _ _ _ _ _ _ named _ _ _ _ _ _ (c .before .before .before .before .before .before .before .before .before .before .before .before .before .before .before .pre .4 .good) (c .before .before .before .before .before .before .before .before .before .before .before .before .before .before .before .pre .4 .most) (c .before .before .before .before .before .before .before .before .before .before .before .before .before .before .before .pre .5) (covers-no _ (c .before .before .before .before .before .before .before .before .before .before .before .before .before .before .before .args .rule) (asLabel (c .before .before .before .before .before .before .before .before .before .before .before .before .before .before .before .args .g)) (c .before .before .before .before .before .before .before .before .before .before .before .before .before .before .before .pre .3) (c .before .before .touchable .ensures) (c .before .reaches-place .ensures) (c .before .before .before .before .place-at .ensures) (c .if2 .taken))
+returns-2 c = λ key named. rule-uncovered key _ _ _ _ _ _ _ _ _ named _ _ _ _ _ _ (c .before .before .before .before .before .before .before .before .before .before .before .pre .4 .good) (c .before .before .before .before .before .before .before .before .before .before .before .pre .4 .most) (c .before .before .before .before .before .before .before .before .before .before .before .pre .5) (covers-no _ (c .before .before .before .before .before .before .before .before .before .before .before .args .rule) (asLabel (c .before .before .before .before .before .before .before .before .before .before .before .args .g)) (c .before .before .before .before .before .before .before .before .before .before .before .pre .3) (c .before .before .touchable .ensures) (c .before .reaches-place .ensures) (c .before .before .before .before .place-at .ensures) (c .if2 .taken))
 
 starts-requires : tie.Need-starts-requires
 starts-requires c κs = search needs
@@ -48,29 +48,17 @@ same-length-2 c = search needs
 
 returns-3 : tie.Need-returns-3
 unfolding cell
-returns-3 c = λ key named. visit-inner key _ _ _ _ _ _ _ named _ (c .before .before .before .before .before .before .before .before .before .before .before .before .before .before .before .before .before .before .before .before .before .pre .4 .good) (c .before .before .before .before .before .before .before .before .before .before .before .before .before .before .before .before .before .before .before .before .before .pre .4 .most) (c .before .before .before .before .before .before .before .before .before .before .before .before .before .before .before .before .before .before .before .before .before .pre .5) (asReach (c .before .before .before .before .before .before .before .before .before .before .before .before .before .before .before .before .before .before .before .before .before .args .reach)) (c .before .before .before .before .before .before .before .before .before .before .before .before .before .before .before .before .before .before .before .before .before .pre .1) (c .before .before .before .before .before .before .before .before .before .before .before .before .before .before .before .before .before .before .before .before .before .pre .2) (c .before .before .before .before .before .before .before .before .before .before .before .before .if1 .left) (covers-yes _ (c .before .before .before .before .before .before .before .before .before .before .before .before .before .before .before .before .before .before .before .before .before .args .rule) (asLabel (c .before .before .before .before .before .before .before .before .before .before .before .before .before .before .before .before .before .before .before .before .before .args .g)) (c .before .before .before .before .before .before .before .before .before .before .before .before .before .before .before .before .before .before .before .before .before .pre .3) (c .before .before .before .before .before .before .before .before .touchable .ensures) (c .before .before .before .before .before .before .before .reaches-place .ensures) (c .before .before .before .before .before .before .before .before .before .before .place-at .ensures) (c .before .before .before .before .before .before .if2 .left)) (starts-no (asReach (c .before .before .before .before .before .before .before .before .before .before .before .before .before .before .before .before .before .before .before .before .before .args .reach)) (c .before .before .before .before .before .starts .ensures) (c .before .before .before .before .before .before .before .before .before .before .place-at .ensures) (c .before .before .before .before .if3 .taken)) (c .before .before .set-gone .ensures)
+returns-3 c = λ key named. visit-inner key _ _ _ _ _ _ _ named _ (c .before .before .before .before .before .before .before .before .before .before .before .before .before .before .before .before .before .pre .4 .good) (c .before .before .before .before .before .before .before .before .before .before .before .before .before .before .before .before .before .pre .4 .most) (c .before .before .before .before .before .before .before .before .before .before .before .before .before .before .before .before .before .pre .5) (asReach (c .before .before .before .before .before .before .before .before .before .before .before .before .before .before .before .before .before .args .reach)) (c .before .before .before .before .before .before .before .before .before .before .before .before .before .before .before .before .before .pre .1) (c .before .before .before .before .before .before .before .before .before .before .before .before .before .before .before .before .before .pre .2) (c .before .before .before .before .before .before .before .before .before .before .before .before .if1 .left) (covers-yes _ (c .before .before .before .before .before .before .before .before .before .before .before .before .before .before .before .before .before .args .rule) (asLabel (c .before .before .before .before .before .before .before .before .before .before .before .before .before .before .before .before .before .args .g)) (c .before .before .before .before .before .before .before .before .before .before .before .before .before .before .before .before .before .pre .3) (c .before .before .before .before .before .before .before .before .touchable .ensures) (c .before .before .before .before .before .before .before .reaches-place .ensures) (c .before .before .before .before .before .before .before .before .before .before .place-at .ensures) (c .before .before .before .before .before .before .if2 .left)) (starts-no (asReach (c .before .before .before .before .before .before .before .before .before .before .before .before .before .before .before .before .before .args .reach)) (c .before .before .before .before .before .starts .ensures) (c .before .before .before .before .before .before .before .before .before .before .place-at .ensures) (c .before .before .before .before .if3 .taken)) (c .before .before .set-gone .ensures)
 
 collapse-node-requires : tie.Need-collapse-node-requires
 unfolding cell
-collapse-node-requires c κs = (c .before .before .before .before .before .before .before .before .before .before .before .before .before .before .before .before .before .before .before .before .before .before .before .pre .0, c .before .before .before .before .before .before .before .before .before .before .before .before .before .before .before .before .before .before .before .before .before .before .before .pre .1, c .before .before .before .before .before .before .before .before .before .before .before .before .before .before .before .before .before .before .before .before .before .before .before .pre .2, c .before .before .before .before .before .before .before .before .before .before .before .before .place-at .ensures, covers-yes _ (c .before .before .before .before .before .before .before .before .before .before .before .before .before .before .before .before .before .before .before .before .before .before .before .args .rule) (asLabel (c .before .before .before .before .before .before .before .before .before .before .before .before .before .before .before .before .before .before .before .before .before .before .before .args .g)) (c .before .before .before .before .before .before .before .before .before .before .before .before .before .before .before .before .before .before .before .before .before .before .before .pre .3) (c .before .before .before .before .before .before .before .before .before .before .touchable .ensures) (c .before .before .before .before .before .before .before .before .before .reaches-place .ensures) (c .before .before .before .before .before .before .before .before .before .before .before .before .place-at .ensures) (c .before .before .before .before .before .before .before .before .if2 .left), starts-yes (asReach (c .before .before .before .before .before .before .before .before .before .before .before .before .before .before .before .before .before .before .before .before .before .before .before .args .reach)) (c .before .before .before .before .before .before .before .starts .ensures) (c .before .before .before .before .before .before .before .before .before .before .before .before .place-at .ensures) (c .before .before .before .before .before .before .if3 .left), c .before .before .before .before .before .before .before .before .before .before .before .before .before .before .before .before .before .before .before .before .before .before .before .pre .4, c .before .before .before .before .before .before .before .before .before .before .before .before .before .before .if1 .left, c .before .before .before .before .before .before .before .before .before .before .before .before .before .before .before .before .before .before .before .before .before .before .before .pre .5, c .before .before .before .before .before .before .before .before .before .before .before .before .before .before .before .before .before .before .before .before .before .before .before .pre .6, c .before .before .before .before .before .before .before .before .before .before .before .before .before .before .before .before .before .before .before .before .before .before .before .pre .7)
+collapse-node-requires c κs = (c .before .before .before .before .before .before .before .before .before .before .before .before .before .before .before .before .before .before .before .pre .0, c .before .before .before .before .before .before .before .before .before .before .before .before .before .before .before .before .before .before .before .pre .1, c .before .before .before .before .before .before .before .before .before .before .before .before .before .before .before .before .before .before .before .pre .2, c .before .before .before .before .before .before .before .before .before .before .before .before .place-at .ensures, covers-yes _ (c .before .before .before .before .before .before .before .before .before .before .before .before .before .before .before .before .before .before .before .args .rule) (asLabel (c .before .before .before .before .before .before .before .before .before .before .before .before .before .before .before .before .before .before .before .args .g)) (c .before .before .before .before .before .before .before .before .before .before .before .before .before .before .before .before .before .before .before .pre .3) (c .before .before .before .before .before .before .before .before .before .before .touchable .ensures) (c .before .before .before .before .before .before .before .before .before .reaches-place .ensures) (c .before .before .before .before .before .before .before .before .before .before .before .before .place-at .ensures) (c .before .before .before .before .before .before .before .before .if2 .left), starts-yes (asReach (c .before .before .before .before .before .before .before .before .before .before .before .before .before .before .before .before .before .before .before .args .reach)) (c .before .before .before .before .before .before .before .starts .ensures) (c .before .before .before .before .before .before .before .before .before .before .before .before .place-at .ensures) (c .before .before .before .before .before .before .if3 .left), c .before .before .before .before .before .before .before .before .before .before .before .before .before .before .before .before .before .before .before .pre .4, c .before .before .before .before .before .before .before .before .before .before .before .before .before .before .if1 .left, c .before .before .before .before .before .before .before .before .before .before .before .before .before .before .before .before .before .before .before .pre .5, c .before .before .before .before .before .before .before .before .before .before .before .before .before .before .before .before .before .before .before .pre .6)
 
 same-length-3 : tie.Need-same-length-3
 same-length-3 c = search needs
 
 same-length-4 : tie.Need-same-length-4
 same-length-4 c = search needs
-
-same-length-5 : tie.Need-same-length-5
-same-length-5 c = search needs
-
-same-length-6 : tie.Need-same-length-6
-same-length-6 c = search needs
-
-same-length-7 : tie.Need-same-length-7
-same-length-7 c = search needs
-
-same-length-8 : tie.Need-same-length-8
-same-length-8 c = search needs
 
 returns-4 : tie.Need-returns-4
 returns-4 c = search needs
@@ -96,8 +84,4 @@ collapse-leaf-spec =
     collapse-node-requires
     same-length-3
     same-length-4
-    same-length-5
-    same-length-6
-    same-length-7
-    same-length-8
     returns-4)

@@ -8,16 +8,16 @@ use lib.ListN.{length}
 use Rattle.redact_node.proofs.Lessons.{LearntBefore, before-start, before-good, before-more, before-stop, before-end, all-legible}
 
 abbrev Inv-loop : tie.InvT-loop
-Inv-loop a s sweep first end cells store value₀ bytes₀ known₀ state₀ i₀ value bytes known state i = LearntBefore a s sweep first end cells store bytes₀ known₀ state₀ bytes known state i × (length value ≡ length value₀) × (length bytes ≡ length bytes₀) × (length known ≡ length known₀)
+Inv-loop a s sweep first end cells store value₀ bytes₀ known₀ state₀ i₀ value bytes known state i = LearntBefore a s sweep first end cells store bytes₀ known₀ state₀ bytes known state i
 
 abbrev μ-loop : tie.MeasureT-loop
 μ-loop a s sweep first end cells store value₀ bytes₀ known₀ state₀ i₀ value bytes known state i = end - i
 
 loop-holds : tie.Need-loop-holds Inv-loop μ-loop
-loop-holds c = (before-start (c .before .before .before .before .before .pre .0 .order), refl, refl, refl)
+loop-holds c = before-start (c .before .pre .0 .order)
 
 learn-live-requires : tie.Need-learn-live-requires Inv-loop μ-loop
-learn-live-requires c κs = (all-legible (c .before .before .before .before .before .before .before .before .before .before .pre .0) (omega (arith, c .before .before .before .before .loop .inv .0 .low)) (omega (arith, c .before .before .before .before .loop .inv .0 .low)) (before-good (c .before .before .before .before .loop .inv .0) (c .before .before .before .before .before .before .before .before .before .before .pre .1)), omega arith)
+learn-live-requires c κs = all-legible (c .before .before .before .before .before .before .pre .0) (omega (arith, c .before .before .before .before .loop .inv .low)) (omega (arith, c .before .before .before .before .loop .inv .low)) (before-good (c .before .before .before .before .loop .inv) (c .before .before .before .before .before .before .pre .1))
 
 enum-known-next : tie.Need-enum-known-next Inv-loop μ-loop
 enum-known-next c = search needs
@@ -25,17 +25,8 @@ enum-known-next c = search needs
 enum-known-refusal : tie.Need-enum-known-refusal Inv-loop μ-loop
 enum-known-refusal c = search needs
 
-same-length : tie.Need-same-length Inv-loop μ-loop
-same-length c = search needs
-
-same-length-2 : tie.Need-same-length-2 Inv-loop μ-loop
-same-length-2 c = search needs
-
-same-length-3 : tie.Need-same-length-3 Inv-loop μ-loop
-same-length-3 c = search needs
-
 returns : tie.Need-returns Inv-loop μ-loop
-returns c = before-stop (c .before .before .before .before .before .before .before .before .before .before .before .before .before .before .loop .inv .0) (omega arith) (c .before .before .before .before .before .before .before .before .before .learn-live .ensures) (c .before .refusal .given .1)
+returns c = before-stop (c .before .before .before .before .before .before .before .before .loop .inv) (omega arith) (c .before .before .before .learn-live .ensures) (c .before .refusal .given .1)
 
 add-i : tie.Need-add-i Inv-loop μ-loop
 add-i c = search needs
@@ -44,19 +35,10 @@ loop-less : tie.Need-loop-less Inv-loop μ-loop
 loop-less c = search needs
 
 loop-again : tie.Need-loop-again Inv-loop μ-loop
-loop-again c = (before-more (c .before .before .before .before .before .before .before .before .before .before .before .before .before .before .loop .inv .0) (omega arith) (c .before .before .before .before .before .before .before .before .before .learn-live .ensures) (c .before .next .given .1), search needs, search needs, search needs)
-
-same-length-4 : tie.Need-same-length-4 Inv-loop μ-loop
-same-length-4 c = search needs
-
-same-length-5 : tie.Need-same-length-5 Inv-loop μ-loop
-same-length-5 c = search needs
-
-same-length-6 : tie.Need-same-length-6 Inv-loop μ-loop
-same-length-6 c = search needs
+loop-again c = before-more (c .before .before .before .before .before .before .before .before .loop .inv) (omega arith) (c .before .before .before .learn-live .ensures) (c .before .next .given .1)
 
 returns-2 : tie.Need-returns-2 Inv-loop μ-loop
-returns-2 c = before-end (c .before .loop .inv .0) (omega arith)
+returns-2 c = before-end (c .before .loop .inv) (omega arith)
 
 pub learn-all-spec : {M : Type 1} → statement M
 learn-all-spec =
@@ -68,14 +50,8 @@ learn-all-spec =
     learn-live-requires
     enum-known-next
     enum-known-refusal
-    same-length
-    same-length-2
-    same-length-3
     returns
     add-i
     loop-less
     loop-again
-    same-length-4
-    same-length-5
-    same-length-6
     returns-2)

@@ -22,20 +22,11 @@ returns c = λ text q k. one-gone _ _ _ _ _ _ (c .if1 .taken) k
 
 learn-at-requires : tie.Need-learn-at-requires
 unfolding cell
-learn-at-requires c κs = (one-readable _ _ _ (c .before .before .before .before .before .before .before .before .before .before .pre .0) (c .before .before .before .if1 .left), c .before .before .before .before .before .before .before .before .before .before .pre .1)
-
-same-length : tie.Need-same-length
-same-length c = search needs
-
-same-length-2 : tie.Need-same-length-2
-same-length-2 c = search needs
-
-same-length-3 : tie.Need-same-length-3
-same-length-3 c = search needs
+learn-at-requires c κs = one-readable (c .before .before .before .before .before .before .pre) (c .before .before .before .if1 .left)
 
 returns-2 : tie.Need-returns-2
 unfolding cell
-returns-2 c = λ text q k. rw (← one-live (c .before .before .before .before .before .before .before .before .before .before .before .before .before .before .before .before .before .args .cells .now) (c .before .before .before .before .before .before .before .before .before .before .before .before .before .before .before .before .before .args .store .now) (c .before .before .before .before .before .before .before .before .before .before .before .before .before .before .before .before .before .args .i) (c .before .before .before .before .before .before .before .before .before .before .if1 .left)) (c .before .before .before .before .before .before .learn-at .ensures text q k)
+returns-2 c = λ text q k. rw (← one-live (c .before .before .before .before .before .before .before .args .cells .now) (c .before .before .before .before .before .before .before .args .store .now) (c .before .before .before .before .before .before .before .args .i) (c .before .before .before .before .if1 .left)) (c .learn-at .ensures text q k)
 
 pub learn-live-spec : {M : Type 1} → statement M
 learn-live-spec =
@@ -47,7 +38,4 @@ learn-live-spec =
     shared-slice-read-if1
     returns
     learn-at-requires
-    same-length
-    same-length-2
-    same-length-3
     returns-2)

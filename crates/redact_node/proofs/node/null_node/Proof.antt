@@ -30,13 +30,13 @@ slice-read-len c = search needs
 
 add-stop : tie.Need-add-stop
 unfolding cell
-add-stop c = omega (arith, c .before .before .before .before .before .before .pre .1 .good .ends (c .before .before .before .before .before .before .args .i) (omega (arith, c .before .before .before .before .before .before .pre .1 .inside, c .before .before .before .before .before .before .pre .1 .ends)), c .before .before .before .before .before .before .pre .1 .good .room)
+add-stop c = omega (arith, c .before .before .before .before .before .pre .1 .good .ends (c .before .before .before .before .before .args .i) (omega (arith, c .before .before .before .before .before .pre .1 .inside, c .before .before .before .before .before .pre .1 .ends)), c .before .before .before .before .before .pre .1 .ample)
 
 add-leaves-size : tie.Need-add-leaves-size
 add-leaves-size c = search needs
 
 leaves-size-requires : tie.Need-leaves-size-requires
-leaves-size-requires c κs = rest-ready (c .before .before .before .before .before .before .before .pre .1)
+leaves-size-requires c κs = rest-ready (c .before .before .before .before .before .before .pre .1)
 
 sub-is-null : tie.Need-sub-is-null
 sub-is-null c = search needs
@@ -46,7 +46,7 @@ part-is-null-start c = search needs
 
 part-is-null-end : tie.Need-part-is-null-end
 unfolding cell
-part-is-null-end c = omega (arith, c .before .before .before .before .before .before .before .before .before .pre .1 .good .ends (c .before .before .before .before .before .before .before .before .before .args .i) (omega (arith, c .before .before .before .before .before .before .before .before .before .pre .1 .inside, c .before .before .before .before .before .before .before .before .before .pre .1 .ends)), c .before .before .before .before .before .before .before .before .before .pre .1 .good .room)
+part-is-null-end c = omega (arith, c .before .before .before .before .before .before .before .before .before .pre .1 .good .ends (c .before .before .before .before .before .before .before .before .before .args .i) (omega (arith, c .before .before .before .before .before .before .before .before .before .pre .1 .inside, c .before .before .before .before .before .before .before .before .before .pre .1 .ends)), c .before .before .before .before .before .before .before .before .before .pre .1 .ample)
 
 is-null-requires : tie.Need-is-null-requires
 is-null-requires c κs = search needs
@@ -54,32 +54,26 @@ is-null-requires c κs = search needs
 same-length : tie.Need-same-length
 same-length c = search needs
 
-same-length-2 : tie.Need-same-length-2
-same-length-2 c = search needs
-
 returns : tie.Need-returns
 unfolding cell
-returns c = node-stays (c .before .before .before .before .before .before .before .before .before .before .before .before .pre .1) (c .before .before .before .before .before .before .before .before .before .before .before .before .pre .2) _ _ (sym (already-is _ _ _ _ (c .before .before .before .before .leaves-size .ensures) (c .before .is-null .ensures)) ∙ c .if1 .taken)
+returns c = node-stays (c .before .before .before .before .before .before .before .before .before .before .before .before .pre .1) (c .before .before .before .before .before .before .before .before .before .before .before .before .pre .2) _ _ (sym (already-is _ _ _ _ (c .before .before .before .before .before .leaves-size .ensures) (c .before .is-null .ensures)) ∙ c .if1 .taken)
 
 add-put-null : tie.Need-add-put-null
 unfolding cell
-add-put-null c = omega (arith, c .before .before .before .before .leaves-size .ensures, rest-fits (c .before .before .before .before .before .before .before .before .before .before .before .before .pre .1), c .before .before .before .before .before .before .before .before .before .before .before .before .pre .1 .good .ends (c .before .before .before .before .before .before .before .before .before .before .before .before .args .i) (omega (arith, c .before .before .before .before .before .before .before .before .before .before .before .before .pre .1 .inside, c .before .before .before .before .before .before .before .before .before .before .before .before .pre .1 .ends)), c .before .before .before .before .before .before .before .before .before .before .before .before .pre .1 .good .room)
+add-put-null c = omega (arith, c .before .before .before .before .before .leaves-size .ensures, rest-fits (c .before .before .before .before .before .before .before .before .before .before .before .before .pre .1), c .before .before .before .before .before .before .before .before .before .before .before .before .pre .1 .good .ends (c .before .before .before .before .before .before .before .before .before .before .before .before .args .i) (omega (arith, c .before .before .before .before .before .before .before .before .before .before .before .before .pre .1 .inside, c .before .before .before .before .before .before .before .before .before .before .before .before .pre .1 .ends)), c .before .before .before .before .before .before .before .before .before .before .before .before .pre .1 .ample)
 
 put-null-requires : tie.Need-put-null-requires
 put-null-requires c κs = search needs
 
+same-length-2 : tie.Need-same-length-2
+same-length-2 c = search needs
+
 same-length-3 : tie.Need-same-length-3
 same-length-3 c = search needs
 
-same-length-4 : tie.Need-same-length-4
-same-length-4 c = search needs
-
-same-length-5 : tie.Need-same-length-5
-same-length-5 c = search needs
-
 returns-2 : tie.Need-returns-2
 unfolding cell
-returns-2 c = node-becomes (c .before .before .before .before .before .before .before .before .before .before .before .before .before .before .before .before .before .before .before .before .before .before .pre .1) (c .before .before .before .before .before .before .before .before .before .before .before .before .before .before .before .before .before .before .before .before .before .before .pre .2) _ _ (sym (already-is _ _ _ _ (c .before .before .before .before .before .before .before .before .before .before .before .before .before .before .leaves-size .ensures) (c .before .before .before .before .before .before .before .before .before .before .before .is-null .ensures)) ∙ c .before .before .before .before .before .before .before .before .before .before .if1 .left) (went-is _ _ _ _ (c .before .before .before .before .before .before .before .before .before .before .before .before .before .before .leaves-size .ensures) (c .before .before .before .before .before .before .before .before .before .before .before .before .before .before .before .before .before .before .before .before .before .before .pre .1) (c .before .before .before .before .before .before .before .before .before .before .before .before .before .before .before .before .before .before .before .before .before .before .pre .2)) (c .before .before .before .before .before .before .put-null .ensures)
+returns-2 c = node-becomes (c .before .before .before .before .before .before .before .before .before .before .before .before .before .before .before .before .before .before .before .before .pre .1) (c .before .before .before .before .before .before .before .before .before .before .before .before .before .before .before .before .before .before .before .before .pre .2) _ _ (sym (already-is _ _ _ _ (c .before .before .before .before .before .before .before .before .before .before .before .before .before .leaves-size .ensures) (c .before .before .before .before .before .before .before .before .before .is-null .ensures)) ∙ c .before .before .before .before .before .before .before .before .if1 .left) (went-is _ _ _ _ (c .before .before .before .before .before .before .before .before .before .before .before .before .before .leaves-size .ensures) (c .before .before .before .before .before .before .before .before .before .before .before .before .before .before .before .before .before .before .before .before .pre .1) (c .before .before .before .before .before .before .before .before .before .before .before .before .before .before .before .before .before .before .before .before .pre .2)) (c .before .before .before .before .put-null .ensures)
 
 pub null-node-spec : {M : Type 1} → statement M
 null-node-spec =
@@ -100,11 +94,9 @@ null-node-spec =
     part-is-null-end
     is-null-requires
     same-length
-    same-length-2
     returns
     add-put-null
     put-null-requires
+    same-length-2
     same-length-3
-    same-length-4
-    same-length-5
     returns-2)

@@ -30,7 +30,7 @@ slice-read-len c = search needs
 
 act-requires : tie.Need-act-requires
 unfolding cell
-act-requires c κs = (c .before .before .before .before .before .before .before .before .before .before .before .pre .0, short-held _ _ _ (c .before .before .before .before .before .before .before .before .before .before .before .pre .0) (c .before .before .before .before .before .before .before .before .before .before .before .pre .2), leaf-held (c .before .before .before .before .before .before .before .before .before .before .before .pre .1), c .before .before .before .before .before .before .before .before .before .before .before .pre .3, c .before .before .before .before .before .before .before .before .before .before .before .pre .4)
+act-requires c κs = (c .before .before .before .before .before .before .before .before .pre .0, short-held _ _ _ (c .before .before .before .before .before .before .before .before .pre .0) (c .before .before .before .before .before .before .before .before .pre .2), leaf-held (c .before .before .before .before .before .before .before .before .pre .1))
 
 enum-told : tie.Need-enum-told
 enum-told c = search needs
@@ -40,10 +40,14 @@ enum-known-came c = search needs
 
 enter-requires : tie.Need-enter-requires
 unfolding cell
-enter-requires c κs = let k = becomes-most (c .before .before .before .before .before .before .before .before .before .before .before .before .before .before .before .before .before .before .before .before .before .before .before .pre .1) _ (c .before .before .before .before .before .before .before .before .before .before .before .act .ensures) (c .before .before .before .came .given .1) in (c .before .before .before .before .before .before .before .before .before .before .before .before .before .before .before .before .before .before .before .before .before .before .before .pre .0, omega (arith, c .before .before .before .before .before .before .before .before .before .before .before .before .before .before .before .before .before .before .before .before .before .before .before .pre .1 .good .rows, c .before .before .before .before .before .before .before .before .before .before .before .before .before .before .before .before .before .before .before .before .before .before .before .pre .1 .inside), omega (arith, k, c .before .before .before .before .before .before .before .before .before .before .before .before .before .before .before .before .before .before .before .before .before .before .before .pre .1 .most), omega (arith, k, c .before .before .before .before .before .before .before .before .before .before .before .before .before .before .before .before .before .before .before .before .before .before .before .pre .1 .low), omega (arith, c .before .before .before .before .before .before .before .before .before .before .before .before .before .before .before .before .before .before .before .before .before .before .before .pre .1 .rows), omega (arith, c .before .before .before .before .before .before .before .before .before .before .before .before .before .before .before .before .before .before .before .before .before .before .before .pre .1 .report), c .before .before .before .before .before .before .before .before .before .before .before .before .before .before .before .before .before .before .before .before .before .before .before .pre .2)
+enter-requires c κs = let k = becomes-most (c .before .before .before .before .before .before .before .before .before .before .before .before .before .before .pre .1) _ (c .before .before .before .before .before .act .ensures) (c .before .before .before .came .given .1) in (c .before .before .before .before .before .before .before .before .before .before .before .before .before .before .pre .0, omega (arith, c .before .before .before .before .before .before .before .before .before .before .before .before .before .before .pre .1 .good .rows, c .before .before .before .before .before .before .before .before .before .before .before .before .before .before .pre .1 .inside), omega (arith, k, c .before .before .before .before .before .before .before .before .before .before .before .before .before .before .pre .1 .most), omega (arith, k, c .before .before .before .before .before .before .before .before .before .before .before .before .before .before .pre .1 .ample), omega (arith, c .before .before .before .before .before .before .before .before .before .before .before .before .before .before .pre .1 .rows), omega (arith, c .before .before .before .before .before .before .before .before .before .before .before .before .before .before .pre .1 .report), c .before .before .before .before .before .before .before .before .before .before .before .before .before .before .pre .2)
 
 enum-told-2 : tie.Need-enum-told-2
 enum-told-2 c = search needs
+
+returns : tie.Need-returns
+unfolding cell textOf
+returns c = acted-stays (c .before .before .before .before .before .before .before .before .before .before .before .pre .1) _ _ _ (act-gone _ _ _ _) (c .before .before .act .ensures) (c .enum-told .given .1)
 
 same-length : tie.Need-same-length
 same-length c = search needs
@@ -51,44 +55,13 @@ same-length c = search needs
 same-length-2 : tie.Need-same-length-2
 same-length-2 c = search needs
 
-same-length-3 : tie.Need-same-length-3
-same-length-3 c = search needs
-
-returns : tie.Need-returns
-unfolding cell textOf
-returns c = acted-stays (c .before .before .before .before .before .before .before .before .before .before .before .before .before .before .before .before .before .before .before .before .pre .1) _ _ _ (act-gone _ _ _ _) (c .before .before .before .before .before .before .before .before .act .ensures) (c .enum-told .given .1)
-
-same-length-4 : tie.Need-same-length-4
-same-length-4 c = search needs
-
-same-length-5 : tie.Need-same-length-5
-same-length-5 c = search needs
-
-same-length-6 : tie.Need-same-length-6
-same-length-6 c = search needs
-
-same-length-7 : tie.Need-same-length-7
-same-length-7 c = search needs
-
-same-length-8 : tie.Need-same-length-8
-same-length-8 c = search needs
-
 returns-2 : tie.Need-returns-2
 unfolding cell textOf
-returns-2 c = acted-becomes (c .before .before .before .before .before .before .before .before .before .before .before .before .before .before .before .before .before .before .before .before .before .before .before .before .before .before .before .before .pre .1) _ _ _ (c .before .before .before .before .before .before .before .before .before .before .before .before .before .before .before .before .act .ensures) (c .before .before .before .before .before .before .before .before .came .given .1) (c .before .before .before .before .enter .ensures)
-
-same-length-9 : tie.Need-same-length-9
-same-length-9 c = search needs
-
-same-length-10 : tie.Need-same-length-10
-same-length-10 c = search needs
-
-same-length-11 : tie.Need-same-length-11
-same-length-11 c = search needs
+returns-2 c = acted-becomes (c .before .before .before .before .before .before .before .before .before .before .before .before .before .before .before .before .before .before .before .pre .1) _ _ _ (c .before .before .before .before .before .before .before .before .before .before .act .ensures) (c .before .before .before .before .before .before .before .before .came .given .1) (c .before .before .before .before .enter .ensures)
 
 returns-3 : tie.Need-returns-3
 unfolding cell textOf
-returns-3 c = acted-long (c .before .before .before .before .before .before .before .before .before .before .before .before .before .before .before .before .before .before .before .before .pre .1) _ _ _ (c .before .before .before .before .before .before .before .before .act .ensures) (c .enum-told2 .given .1)
+returns-3 c = acted-long (c .before .before .before .before .before .before .before .before .before .before .before .pre .1) _ _ _ (c .before .before .act .ensures) (c .enum-told2 .given .1)
 
 pub act-on-spec : {M : Type 1} → statement M
 act-on-spec =
@@ -106,17 +79,8 @@ act-on-spec =
     enum-known-came
     enter-requires
     enum-told-2
+    returns
     same-length
     same-length-2
-    same-length-3
-    returns
-    same-length-4
-    same-length-5
-    same-length-6
-    same-length-7
-    same-length-8
     returns-2
-    same-length-9
-    same-length-10
-    same-length-11
     returns-3)

@@ -36,7 +36,7 @@ shared-slice-read-end c = search needs
 
 add-end-2 : tie.Need-add-end-2
 unfolding cell
-add-end-2 c = omega (arith, c .before .before .before .before .before .before .before .before .pre .0 .inside)
+add-end-2 c = omega (arith, c .before .before .before .before .pre .inside)
 
 sub-learn-leaf : tie.Need-sub-learn-leaf
 sub-learn-leaf c = search needs
@@ -46,11 +46,11 @@ part-learn-leaf-start c = search needs
 
 part-learn-leaf-end : tie.Need-part-learn-leaf-end
 unfolding cell
-part-learn-leaf-end c = c .before .before .before .before .before .before .before .before .pre .0 .inside
+part-learn-leaf-end c = omega (arith, c .before .before .before .before .before .pre .inside)
 
 learn-leaf-requires : tie.Need-learn-leaf-requires
 unfolding cell
-learn-leaf-requires c κs = (c .before .before .before .before .before .before .before .before .before .before .before .before .pre .0 .good, omega arith, omega arith)
+learn-leaf-requires c κs = (c .before .before .before .before .before .before .before .before .before .pre .good, omega arith)
 
 enum-known-count : tie.Need-enum-known-count
 enum-known-count c = search needs
@@ -58,31 +58,13 @@ enum-known-count c = search needs
 enum-told : tie.Need-enum-told
 enum-told c = search needs
 
-same-length : tie.Need-same-length
-same-length c = search needs
-
-same-length-2 : tie.Need-same-length-2
-same-length-2 c = search needs
-
-same-length-3 : tie.Need-same-length-3
-same-length-3 c = search needs
-
 returns-2 : tie.Need-returns-2
 unfolding cell textOf
-returns-2 c = λ text q h. learning-kept _ _ _ _ _ (c .before .before .before .before .before .before .before .before .before .learn-leaf .ensures) _ (not-false _ (c .before .before .before .before .before .before .before .before .before .before .before .before .before .before .before .before .if1 .left)) text (c .before .count .given .1) q h
-
-same-length-4 : tie.Need-same-length-4
-same-length-4 c = search needs
-
-same-length-5 : tie.Need-same-length-5
-same-length-5 c = search needs
-
-same-length-6 : tie.Need-same-length-6
-same-length-6 c = search needs
+returns-2 c = λ text q h. learning-kept _ _ _ _ _ (c .before .before .before .learn-leaf .ensures) _ (not-false _ (c .before .before .before .before .before .before .before .before .before .before .before .if1 .left)) text (c .before .count .given .1) q h
 
 returns-3 : tie.Need-returns-3
 unfolding cell textOf
-returns-3 c = λ text q h. learning-full _ _ _ _ _ (c .before .before .before .before .before .before .before .before .learn-leaf .ensures) _ (not-false _ (c .before .before .before .before .before .before .before .before .before .before .before .before .before .before .before .if1 .left)) text (c .enum-told .given .1)
+returns-3 c = λ text q h. learning-full _ _ _ _ _ (c .before .before .learn-leaf .ensures) _ (not-false _ (c .before .before .before .before .before .before .before .before .before .before .if1 .left)) text (c .enum-told .given .1)
 
 pub learn-at-spec : {M : Type 1} → statement M
 learn-at-spec =
@@ -103,11 +85,5 @@ learn-at-spec =
     learn-leaf-requires
     enum-known-count
     enum-told
-    same-length
-    same-length-2
-    same-length-3
     returns-2
-    same-length-4
-    same-length-5
-    same-length-6
     returns-3)

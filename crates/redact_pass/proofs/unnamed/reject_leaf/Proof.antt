@@ -22,7 +22,7 @@ slice-read-if1 c = search needs
 
 returns : tie.Need-returns
 unfolding cell
-returns c = λ sweep end ks m e. unnamed-gone _ _ _ _ sweep _ end _ ks m _ _ _ _ (c .before .before .before .before .before .before .before .before .pre .1 .good) (c .before .before .before .before .before .before .before .before .pre .1 .most) (c .if1 .taken)
+returns c = λ sweep end ks m e. unnamed-gone _ _ _ _ sweep _ end _ ks m _ _ _ _ (c .before .before .before .before .before .pre .1 .good) (c .before .before .before .before .before .pre .1 .most) (c .if1 .taken)
 
 place-at-requires : tie.Need-place-at-requires
 place-at-requires c κs = search needs
@@ -34,11 +34,11 @@ same-length : tie.Need-same-length
 same-length c = search needs
 
 returns-2 : tie.Need-returns-2
-returns-2 c = λ sweep end ks m e. unnamed-kept _ _ _ _ sweep _ end _ ks m _ _ _ _ (c .before .before .before .before .before .before .before .before .before .before .before .before .pre .1 .good) (c .before .before .before .before .before .before .before .before .before .before .before .before .pre .1 .most) (unnamed-no (asLabel (c .before .before .before .before .before .before .before .before .before .before .before .before .args .g)) (c .before .touchable .ensures) (c .before .before .place-at .ensures) e (c .if2 .taken))
+returns-2 c = λ sweep end ks m e. unnamed-kept _ _ _ _ sweep _ end _ ks m _ _ _ _ (c .before .before .before .before .before .before .before .before .before .pre .1 .good) (c .before .before .before .before .before .before .before .before .before .pre .1 .most) (unnamed-no (asLabel (c .before .before .before .before .before .before .before .before .before .args .g)) (c .before .touchable .ensures) (c .before .before .place-at .ensures) e (c .if2 .taken))
 
 act-on-requires : tie.Need-act-on-requires
 unfolding cell
-act-on-requires c κs = (c .before .before .before .before .before .before .before .before .before .before .before .before .before .before .before .before .before .pre .0, ready-live (c .before .before .before .before .before .before .before .before .before .before .before .before .before .before .before .before .before .pre .1) (c .before .before .before .before .before .before .before .before .before .if1 .left), c .before .before .before .before .before .before .before .before .before .before .before .before .before .before .before .before .before .pre .2, c .before .before .before .before .before .before .before .before .before .before .before .before .before .before .before .before .before .pre .3, c .before .before .before .before .before .before .before .before .before .before .before .before .before .before .before .before .before .pre .4)
+act-on-requires c κs = (c .before .before .before .before .before .before .before .before .before .before .before .before .before .before .pre .0, ready-live (c .before .before .before .before .before .before .before .before .before .before .before .before .before .before .pre .1) (c .before .before .before .before .before .before .before .before .before .if1 .left), c .before .before .before .before .before .before .before .before .before .before .before .before .before .before .pre .2)
 
 same-length-2 : tie.Need-same-length-2
 same-length-2 c = search needs
@@ -46,18 +46,9 @@ same-length-2 c = search needs
 same-length-3 : tie.Need-same-length-3
 same-length-3 c = search needs
 
-same-length-4 : tie.Need-same-length-4
-same-length-4 c = search needs
-
-same-length-5 : tie.Need-same-length-5
-same-length-5 c = search needs
-
-same-length-6 : tie.Need-same-length-6
-same-length-6 c = search needs
-
 returns-3 : tie.Need-returns-3
 unfolding cell forPosture
-returns-3 c = λ sweep end ks m e. unnamed-acted-at _ _ _ _ sweep _ end _ ks m _ _ _ _ _ (ready-live (c .before .before .before .before .before .before .before .before .before .before .before .before .before .before .before .before .before .before .before .before .before .before .before .before .before .before .before .before .pre .1) (c .before .before .before .before .before .before .before .before .before .before .before .before .before .before .before .before .before .before .before .before .if1 .left)) (unnamed-yes (asLabel (c .before .before .before .before .before .before .before .before .before .before .before .before .before .before .before .before .before .before .before .before .before .before .before .before .before .before .before .before .args .g)) (c .before .before .before .before .before .before .before .before .before .before .before .before .before .before .before .before .before .touchable .ensures) (c .before .before .before .before .before .before .before .before .before .before .before .before .before .before .before .before .before .before .place-at .ensures) e (c .before .before .before .before .before .before .before .before .before .before .before .before .before .before .before .before .if2 .left)) refl _ (c .before .before .before .before .before .before .before .before .before .before .before .before .before .before .before .before .before .before .place-at .ensures) (c .before .before .before .before .before .before .before .before .before .before .act-on .ensures)
+returns-3 c = λ sweep end ks m e. unnamed-acted-at _ _ _ _ sweep _ end _ ks m _ _ _ _ _ (ready-live (c .before .before .before .before .before .before .before .before .before .before .before .before .before .before .before .before .before .before .before .pre .1) (c .before .before .before .before .before .before .before .before .before .before .before .before .before .before .if1 .left)) (unnamed-yes (asLabel (c .before .before .before .before .before .before .before .before .before .before .before .before .before .before .before .before .before .before .before .args .g)) (c .before .before .before .before .before .before .before .before .before .before .before .touchable .ensures) (c .before .before .before .before .before .before .before .before .before .before .before .before .place-at .ensures) e (c .before .before .before .before .before .before .before .before .before .before .if2 .left)) refl _ (c .before .before .before .before .before .before .before .before .before .before .before .before .place-at .ensures) (c .before .before .before .before .act-on .ensures)
 
 pub reject-leaf-spec : {M : Type 1} → statement M
 reject-leaf-spec =
@@ -75,7 +66,4 @@ reject-leaf-spec =
     act-on-requires
     same-length-2
     same-length-3
-    same-length-4
-    same-length-5
-    same-length-6
     returns-3)

@@ -30,7 +30,7 @@ slice-read-if1 c = search needs
 
 returns : tie.Need-returns
 unfolding cell
-returns c = λ sweep end ks m e. unnamed-gone _ _ _ _ sweep _ end _ ks m _ _ _ _ (c .before .before .before .before .before .before .before .before .before .before .pre .1 .good) (c .before .before .before .before .before .before .before .before .before .before .pre .1 .most) (c .if1 .taken)
+returns c = λ sweep end ks m e. unnamed-gone _ _ _ _ sweep _ end _ ks m _ _ _ _ (c .before .before .before .before .before .pre .1 .good) (c .before .before .before .before .before .pre .1 .most) (c .if1 .taken)
 
 add-start : tie.Need-add-start
 add-start c = search needs
@@ -60,11 +60,11 @@ same-length : tie.Need-same-length
 same-length c = search needs
 
 returns-2 : tie.Need-returns-2
-returns-2 c = λ sweep end ks m e. unnamed-kept _ _ _ _ sweep _ end _ ks m _ _ _ _ (c .before .before .before .before .before .before .before .before .before .before .before .before .before .before .before .before .pre .1 .good) (c .before .before .before .before .before .before .before .before .before .before .before .before .before .before .before .before .pre .1 .most) (unnamed-no (asLabel (c .before .before .before .before .before .before .before .before .before .before .before .before .before .before .before .before .args .g)) (c .before .touchable .ensures) (c .before .before .place-at .ensures) e (c .if2 .taken))
+returns-2 c = λ sweep end ks m e. unnamed-kept _ _ _ _ sweep _ end _ ks m _ _ _ _ (c .before .before .before .before .before .before .before .before .before .before .before .pre .1 .good) (c .before .before .before .before .before .before .before .before .before .before .before .pre .1 .most) (unnamed-no (asLabel (c .before .before .before .before .before .before .before .before .before .before .before .args .g)) (c .before .touchable .ensures) (c .before .before .place-at .ensures) e (c .if2 .taken))
 
 add-end : tie.Need-add-end
 unfolding cell
-add-end c = omega (arith, c .before .before .before .before .before .before .before .before .before .before .before .before .before .before .before .before .pre .1 .good .ends _ (c .before .before .before .before .before .before .before .before .before .before .before .before .before .before .before .before .pre .1 .inside), c .before .before .before .before .before .before .before .before .before .before .before .before .before .before .before .before .pre .1 .low)
+add-end c = omega (arith, c .before .before .before .before .before .before .before .before .before .before .before .pre .1 .good .ends _ (c .before .before .before .before .before .before .before .before .before .before .before .pre .1 .inside), c .before .before .before .before .before .before .before .before .before .before .before .pre .1 .ample)
 
 sub-for-sweep : tie.Need-sub-for-sweep
 sub-for-sweep c = search needs
@@ -74,14 +74,25 @@ part-for-sweep-start c = search needs
 
 part-for-sweep-end : tie.Need-part-for-sweep-end
 unfolding cell
-part-for-sweep-end c = omega (arith, c .before .before .before .before .before .before .before .before .before .before .before .before .before .before .before .before .before .pre .1 .good .ends _ (c .before .before .before .before .before .before .before .before .before .before .before .before .before .before .before .before .before .pre .1 .inside), c .before .before .before .before .before .before .before .before .before .before .before .before .before .before .before .before .before .pre .1 .good .room)
+part-for-sweep-end c = omega (arith, c .before .before .before .before .before .before .before .before .before .before .before .before .before .pre .1 .good .ends _ (c .before .before .before .before .before .before .before .before .before .before .before .before .before .pre .1 .inside), c .before .before .before .before .before .before .before .before .before .before .before .before .before .pre .1 .ample)
 
 for-sweep-requires : tie.Need-for-sweep-requires
 unfolding cell
-for-sweep-requires c κs = (good-slots (c .before .before .before .before .before .before .before .before .before .before .before .before .before .before .before .before .before .before .before .pre .0 .good), simp length-take (omega (arith, c .before .before .before .before .before .before .before .before .before .before .before .before .before .before .before .before .before .before .before .pre .1 .within (c .before .before .before .before .before .before .before .before .before .if1 .left), c .before .before .before .before .before .before .before .before .before .before .before .before .before .before .before .before .before .before .before .pre .1 .most)))
+for-sweep-requires c κs = (good-slots (c .before .before .before .before .before .before .before .before .before .before .before .before .before .before .before .pre .0 .good), simp length-take (omega (arith, c .before .before .before .before .before .before .before .before .before .before .before .before .before .before .before .pre .1 .within (c .before .before .before .before .before .before .before .before .before .before .if1 .left), c .before .before .before .before .before .before .before .before .before .before .before .before .before .before .before .pre .1 .most)))
 
 same-length-2 : tie.Need-same-length-2
 same-length-2 c = search needs
+
+returns-3 : tie.Need-returns-3
+unfolding cell textOf
+returns-3 c = λ sweep end ks m e. unnamed-none _ _ _ _ sweep _ end _ ks m _ _ _ _ (c .before .before .before .before .before .before .before .before .before .before .before .before .before .before .before .before .before .before .pre .1 .good) (c .before .before .before .before .before .before .before .before .before .before .before .before .before .before .before .before .before .before .pre .1 .most) (c .before .before .before .before .before .before .before .before .before .before .before .before .before .if1 .left) (swept-none _ _ _ _ _ _ _ _ (c .before .before .for-sweep .ensures) (c .if3 .taken))
+
+action-at-requires : tie.Need-action-at-requires
+action-at-requires c κs = omega (arith, c .before .before .for-sweep .ensures .high, c .before .before .before .before .before .before .before .before .before .before .before .before .before .before .before .before .before .before .pre .0 .good .few, c .if3 .left)
+
+act-on-requires : tie.Need-act-on-requires
+unfolding cell
+act-on-requires c κs = (rw (c .before .before .before .before .before .action-at .ensures) (c .before .before .before .before .before .before .before .before .before .before .before .before .before .before .before .before .before .before .before .before .before .before .before .before .pre .0 .held .held _ (omega (arith, c .before .before .before .before .before .before .before .before .for-sweep .ensures .high, c .before .before .before .before .before .before .if3 .left))), ready-live (c .before .before .before .before .before .before .before .before .before .before .before .before .before .before .before .before .before .before .before .before .before .before .before .before .pre .1) (c .before .before .before .before .before .before .before .before .before .before .before .before .before .before .before .before .before .before .before .if1 .left), c .before .before .before .before .before .before .before .before .before .before .before .before .before .before .before .before .before .before .before .before .before .before .before .before .pre .2)
 
 same-length-3 : tie.Need-same-length-3
 same-length-3 c = search needs
@@ -89,35 +100,9 @@ same-length-3 c = search needs
 same-length-4 : tie.Need-same-length-4
 same-length-4 c = search needs
 
-returns-3 : tie.Need-returns-3
-unfolding cell textOf
-returns-3 c = λ sweep end ks m e. unnamed-none _ _ _ _ sweep _ end _ ks m _ _ _ _ (c .before .before .before .before .before .before .before .before .before .before .before .before .before .before .before .before .before .before .before .before .before .before .before .before .pre .1 .good) (c .before .before .before .before .before .before .before .before .before .before .before .before .before .before .before .before .before .before .before .before .before .before .before .before .pre .1 .most) (c .before .before .before .before .before .before .before .before .before .before .before .before .before .before .if1 .left) (swept-none _ _ _ _ _ _ _ _ (c .before .before .before .before .for-sweep .ensures) (c .if3 .taken))
-
-action-at-requires : tie.Need-action-at-requires
-action-at-requires c κs = omega (arith, c .before .before .before .before .for-sweep .ensures .high, c .before .before .before .before .before .before .before .before .before .before .before .before .before .before .before .before .before .before .before .before .before .before .before .before .pre .0 .good .few, c .before .before .before .before .before .before .before .before .before .before .before .before .before .before .before .before .before .before .before .before .before .before .before .before .pre .0 .good .long, c .if3 .left)
-
-act-on-requires : tie.Need-act-on-requires
-unfolding cell
-act-on-requires c κs = (rw (c .before .before .before .before .before .action-at .ensures) (c .before .before .before .before .before .before .before .before .before .before .before .before .before .before .before .before .before .before .before .before .before .before .before .before .before .before .before .before .before .before .pre .0 .held .held _ (omega (arith, c .before .before .before .before .before .before .before .before .before .before .for-sweep .ensures .high, c .before .before .before .before .before .before .if3 .left))), ready-live (c .before .before .before .before .before .before .before .before .before .before .before .before .before .before .before .before .before .before .before .before .before .before .before .before .before .before .before .before .before .before .pre .1) (c .before .before .before .before .before .before .before .before .before .before .before .before .before .before .before .before .before .before .before .before .if1 .left), c .before .before .before .before .before .before .before .before .before .before .before .before .before .before .before .before .before .before .before .before .before .before .before .before .before .before .before .before .before .before .pre .2, omega (arith, c .before .before .before .before .before .before .before .before .before .before .before .before .before .before .before .before .before .before .before .before .before .before .before .before .before .before .before .before .before .before .pre .3, c .before .before .before .before .before .before .before .before .before .value, c .before .before .before .before .before .before .before .before .before .before .for-sweep), omega (arith, c .before .before .before .before .before .before .before .before .before .before .before .before .before .before .before .before .before .before .before .before .before .before .before .before .before .before .before .before .before .before .pre .4, c .before .before .before .before .before .before .before .before .before .before .before .before .before .before .before .before .before .before .before .before .before .before .before .before .before .before .before .before .before .before))
-
-same-length-5 : tie.Need-same-length-5
-same-length-5 c = search needs
-
-same-length-6 : tie.Need-same-length-6
-same-length-6 c = search needs
-
-same-length-7 : tie.Need-same-length-7
-same-length-7 c = search needs
-
-same-length-8 : tie.Need-same-length-8
-same-length-8 c = search needs
-
-same-length-9 : tie.Need-same-length-9
-same-length-9 c = search needs
-
 returns-4 : tie.Need-returns-4
 unfolding cell textOf
-returns-4 c = λ sweep end ks m e. unnamed-acted-at _ _ _ _ sweep _ end _ ks m _ _ _ _ _ (ready-live (c .before .before .before .before .before .before .before .before .before .before .before .before .before .before .before .before .before .before .before .before .before .before .before .before .before .before .before .before .before .before .before .before .before .before .before .before .before .before .before .before .before .pre .1) (c .before .before .before .before .before .before .before .before .before .before .before .before .before .before .before .before .before .before .before .before .before .before .before .before .before .before .before .before .before .before .before .if1 .left)) (unnamed-yes (asLabel (c .before .before .before .before .before .before .before .before .before .before .before .before .before .before .before .before .before .before .before .before .before .before .before .before .before .before .before .before .before .before .before .before .before .before .before .before .before .before .before .before .before .args .g)) (c .before .before .before .before .before .before .before .before .before .before .before .before .before .before .before .before .before .before .before .before .before .before .before .before .before .before .touchable .ensures) (c .before .before .before .before .before .before .before .before .before .before .before .before .before .before .before .before .before .before .before .before .before .before .before .before .before .before .before .place-at .ensures) e (c .before .before .before .before .before .before .before .before .before .before .before .before .before .before .before .before .before .before .before .before .before .before .before .before .before .if2 .left)) (rw (c .before .before .before .before .before .before .before .before .before .before .before .before .before .before .before .before .action-at .ensures) (swept-some _ _ _ _ _ _ _ _ (c .before .before .before .before .before .before .before .before .before .before .before .before .before .before .before .before .before .before .before .before .before .for-sweep .ensures) (c .before .before .before .before .before .before .before .before .before .before .before .before .before .before .before .before .before .if3 .left))) _ (c .before .before .before .before .before .before .before .before .before .before .before .before .before .before .before .before .before .before .before .before .before .before .before .before .before .before .before .place-at .ensures) (c .before .before .before .before .before .before .before .before .before .before .act-on .ensures)
+returns-4 c = λ sweep end ks m e. unnamed-acted-at _ _ _ _ sweep _ end _ ks m _ _ _ _ _ (ready-live (c .before .before .before .before .before .before .before .before .before .before .before .before .before .before .before .before .before .before .before .before .before .before .before .before .before .before .before .before .before .pre .1) (c .before .before .before .before .before .before .before .before .before .before .before .before .before .before .before .before .before .before .before .before .before .before .before .before .if1 .left)) (unnamed-yes (asLabel (c .before .before .before .before .before .before .before .before .before .before .before .before .before .before .before .before .before .before .before .before .before .before .before .before .before .before .before .before .before .args .g)) (c .before .before .before .before .before .before .before .before .before .before .before .before .before .before .before .before .before .before .before .touchable .ensures) (c .before .before .before .before .before .before .before .before .before .before .before .before .before .before .before .before .before .before .before .before .place-at .ensures) e (c .before .before .before .before .before .before .before .before .before .before .before .before .before .before .before .before .before .before .if2 .left)) (rw (c .before .before .before .before .before .before .before .before .before .before .action-at .ensures) (swept-some _ _ _ _ _ _ _ _ (c .before .before .before .before .before .before .before .before .before .before .before .before .before .for-sweep .ensures) (c .before .before .before .before .before .before .before .before .before .before .before .if3 .left))) _ (c .before .before .before .before .before .before .before .before .before .before .before .before .before .before .before .before .before .before .before .before .place-at .ensures) (c .before .before .before .before .act-on .ensures)
 
 pub sweep-leaf-spec : {M : Type 1} → statement M
 sweep-leaf-spec =
@@ -144,14 +129,9 @@ sweep-leaf-spec =
     part-for-sweep-end
     for-sweep-requires
     same-length-2
-    same-length-3
-    same-length-4
     returns-3
     action-at-requires
     act-on-requires
-    same-length-5
-    same-length-6
-    same-length-7
-    same-length-8
-    same-length-9
+    same-length-3
+    same-length-4
     returns-4)

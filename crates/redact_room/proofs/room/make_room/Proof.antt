@@ -4,9 +4,6 @@ use Rattle.redact_room.proofs.room.make_room.Tie as tie
 use Rattle.er7_render.proofs.store.compact.Reads as compact-reads
 use Rattle.redact_room.proofs.Laws.{room-packed}
 
-add-if1 : tie.Need-add-if1
-add-if1 c = search needs
-
 returns : tie.Need-returns
 returns c = search needs
 
@@ -16,16 +13,14 @@ compact-requires c κs = search needs
 same-length : tie.Need-same-length
 same-length c = search needs
 
-same-length-2 : tie.Need-same-length-2
-same-length-2 c = search needs
-
-same-length-3 : tie.Need-same-length-3
-same-length-3 c = search needs
-
 returns-2 : tie.Need-returns-2
-returns-2 c = room-packed (c .before .before .before .before .before .before .before .before .before .before .before .before .before .before .before .pre .0) (c .before .before .before .before .before .before .before .before .before .before .before .before .before .before .before .pre .1) (c .before .before .before .before .before .before .before .before .before .before .before .before .before .before .before .pre .2) (search needs) (c .before .before .before .before .before .before .compact .ensures)
+returns-2 c = room-packed (c .before .before .before .before .before .before .before .before .before .pre .0) (c .before .before .before .before .before .before .before .before .before .pre .1) (c .before .before .compact .ensures)
 
 pub make-room-spec : {M : Type 1} → statement M
 make-room-spec =
     tie.close
-    (tie.spec add-if1 returns compact-requires same-length same-length-2 same-length-3 returns-2)
+    (tie.spec
+    returns
+    compact-requires
+    same-length
+    returns-2)

@@ -21,4 +21,10 @@ unfolding anyKnown
 returns-2 c = sym (rw (c .enum-told .given .1))
 
 pub knows-any-spec : {M : Type 1} → statement M
-knows-any-spec = tie.close (tie.spec enum-known-done enum-told returns returns-2)
+knows-any-spec =
+    tie.close
+    (tie.spec
+    enum-known-done
+    enum-told
+    returns
+    returns-2)

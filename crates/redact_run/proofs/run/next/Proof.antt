@@ -10,7 +10,7 @@ enum-known-done : tie.Need-enum-known-done
 enum-known-done c = search needs
 
 turn-once-requires : tie.Need-turn-once-requires
-turn-once-requires c κs = (c .before .before .before .before .before .before .before .before .before .before .before .before .before .before .before .before .before .before .before .before .before .pre .0, c .before .before .before .before .before .before .before .before .before .before .before .before .before .before .before .before .before .before .before .before .before .pre .1, poised-going _ _ _ _ _ _ _ (c .before .before .before .before .before .before .before .before .before .before .before .before .before .before .before .before .before .before .before .before .before .pre .2) (c .before .before .before .before .before .before .before .before .before .done .given .1))
+turn-once-requires c κs = (c .before .before .before .before .before .before .before .before .before .before .before .before .before .before .before .pre .0, c .before .before .before .before .before .before .before .before .before .before .before .before .before .before .before .pre .1, poised-going _ _ _ _ _ _ _ (c .before .before .before .before .before .before .before .before .before .before .before .before .before .before .before .pre .2) (c .before .before .before .before .before .before .before .before .before .done .given .1))
 
 enum-known-done-2 : tie.Need-enum-known-done-2
 enum-known-done-2 c = search needs
@@ -21,26 +21,8 @@ same-length c = search needs
 same-length-2 : tie.Need-same-length-2
 same-length-2 c = search needs
 
-same-length-3 : tie.Need-same-length-3
-same-length-3 c = search needs
-
-same-length-4 : tie.Need-same-length-4
-same-length-4 c = search needs
-
-same-length-5 : tie.Need-same-length-5
-same-length-5 c = search needs
-
-same-length-6 : tie.Need-same-length-6
-same-length-6 c = search needs
-
-same-length-7 : tie.Need-same-length-7
-same-length-7 c = search needs
-
-same-length-8 : tie.Need-same-length-8
-same-length-8 c = search needs
-
 returns : tie.Need-returns
-returns c = λ cr turns ss b P p g. stands-next _ _ cr _ _ _ _ _ _ turns (c .before .before .before .before .before .before .before .before .before .before .before .before .before .before .before .before .before .before .before .before .before .before .before .before .before .before .before .before .before .before .before .before .before .before .before .before .before .before .pre .1 .leaves) (stands-going g (c .before .before .before .before .before .before .before .before .before .before .before .before .before .before .before .before .before .before .before .before .before .before .before .before .before .before .done .given .1)) (pass-going p (c .before .before .before .before .before .before .before .before .before .before .before .before .before .before .before .before .before .before .before .before .before .before .before .before .before .before .done .given .1)) _ (c .before .before .before .before .before .before .before .before .before .before .before .before .before .before .before .before .turn-once .ensures)
+returns c = λ cr turns ss b P p g. stands-next _ _ cr _ _ _ _ _ _ turns (c .before .before .before .before .before .before .before .before .before .before .before .before .before .before .before .before .before .before .before .before .pre .1 .leaves) (stands-going g (c .before .before .before .before .before .before .before .before .before .before .before .before .before .before .done .given .1)) (pass-going p (c .before .before .before .before .before .before .before .before .before .before .before .before .before .before .done .given .1)) _ (c .before .before .before .before .turn-once .ensures)
 
 returns-2 : tie.Need-returns-2
 returns-2 c = λ cr turns ss b P p g. stands-stopped _ _ (stands-refused g (c .before .done2 .given .1))
@@ -54,11 +36,5 @@ next-spec =
     enum-known-done-2
     same-length
     same-length-2
-    same-length-3
-    same-length-4
-    same-length-5
-    same-length-6
-    same-length-7
-    same-length-8
     returns
     returns-2)

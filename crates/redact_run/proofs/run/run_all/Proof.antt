@@ -8,14 +8,13 @@ use Rattle.redact_run.proofs.run.run_turns.Reads as run-turns-reads
 use Rattle.text.proofs.bytes.copy_at.Reads as copy-at-reads
 use mathlib.Core.Bool.{Bool, false}
 use Rattle.policy.specs.Policy.{asPolicy}
-use lib.ListN.{length-replicate}
 use Rattle.redact_run.proofs.Whole.{first-stage, run-lent, run-ends, message-room}
 
 copy-at-requires : tie.Need-copy-at-requires
-copy-at-requires c κs = omega (arith, message-room (c .before .before .before .before .before .before .before .before .before .before .before .pre .1), c .before .before .before .before .before .before .before .before .before .before .before .pre .1 .wide)
+copy-at-requires c κs = omega (arith, message-room (c .before .before .before .before .before .before .pre .1))
 
 run-turns-requires : tie.Need-run-turns-requires
-run-turns-requires c κs = (length-replicate {A = Bool} 4096 false, c .before .before .before .before .before .before .before .before .before .before .before .before .before .before .before .before .before .before .before .before .before .pre .0, run-lent (c .before .before .before .before .before .before .before .before .before .before .before .before .before .before .before .before .before .before .before .before .before .pre .1) (c .before .before .before .before .before .before .before .before .before .copy-at .ensures), record { ss = _; book = _; stands = record { out = first-stage (c .before .before .before .before .before .before .before .before .before .before .before .before .before .before .before .before .before .before .before .before .before .pre .1) (c .before .before .before .before .before .before .before .before .before .copy-at .ensures) _ } })
+run-turns-requires c κs = (c .before .before .before .before .before .before .before .before .before .before .before .before .before .before .pre .0, run-lent (c .before .before .before .before .before .before .before .before .before .before .before .before .before .before .pre .1), record { ss = _; book = _; stands = record { out = first-stage (c .before .before .before .before .before .before .before .before .before .before .before .before .before .before .pre .1) (c .before .before .before .before .before .before .before .copy-at .ensures) _ _ _ } })
 
 same-length : tie.Need-same-length
 same-length c = search needs
@@ -23,24 +22,9 @@ same-length c = search needs
 same-length-2 : tie.Need-same-length-2
 same-length-2 c = search needs
 
-same-length-3 : tie.Need-same-length-3
-same-length-3 c = search needs
-
-same-length-4 : tie.Need-same-length-4
-same-length-4 c = search needs
-
-same-length-5 : tie.Need-same-length-5
-same-length-5 c = search needs
-
-same-length-6 : tie.Need-same-length-6
-same-length-6 c = search needs
-
-same-length-7 : tie.Need-same-length-7
-same-length-7 c = search needs
-
 returns : tie.Need-returns
 unfolding asPolicy
-returns c = run-ends _ _ _ _ (c .before .before .before .before .before .before .before .before .before .before .before .before .before .before .before .before .before .before .before .before .before .before .before .before .before .before .before .before .before .before .before .before .before .before .before .before .pre .1 .standing .separators) (c .before .before .before .before .before .before .before .before .before .before .before .before .before .before .before .before .before .before .before .before .before .before .before .before .before .before .before .before .before .before .before .before .before .before .before .before .pre .1 .standing .last) _ _ _ _ _ _ _ _ _ (c .before .before .before .before .before .before .before .before .before .before .before .before .before .before .run-turns .ensures _ _ (record { out = first-stage (c .before .before .before .before .before .before .before .before .before .before .before .before .before .before .before .before .before .before .before .before .before .before .before .before .before .before .before .before .before .before .before .before .before .before .before .before .pre .1) (c .before .before .before .before .before .before .before .before .before .before .before .before .before .before .before .before .before .before .before .before .before .before .before .before .copy-at .ensures) _ }))
+returns c = run-ends _ _ _ _ (c .before .before .before .before .before .before .before .before .before .before .before .before .before .before .before .before .before .before .before .pre .1 .standing .separators) (c .before .before .before .before .before .before .before .before .before .before .before .before .before .before .before .before .before .before .before .pre .1 .standing .last) _ _ _ _ _ _ _ _ _ (c .before .before .before .before .run-turns .ensures _ _ (record { out = first-stage (c .before .before .before .before .before .before .before .before .before .before .before .before .before .before .before .before .before .before .before .pre .1) (c .before .before .before .before .before .before .before .before .before .before .before .before .copy-at .ensures) _ _ _ }))
 
 pub run-all-spec : {M : Type 1} → statement M
 run-all-spec =
@@ -50,9 +34,4 @@ run-all-spec =
     run-turns-requires
     same-length
     same-length-2
-    same-length-3
-    same-length-4
-    same-length-5
-    same-length-6
-    same-length-7
     returns)

@@ -14,10 +14,10 @@ enum-known-posture : tie.Need-enum-known-posture
 enum-known-posture c = search needs
 
 run-turn-requires : tie.Need-run-turn-requires
-run-turn-requires c κs = (c .before .before .before .before .before .before .before .before .before .before .before .before .before .before .before .before .before .before .before .pre .0, posture-held _ _ (c .before .before .before .before .before .before .before .before .before .before .before .before .before .before .before .before .before .before .before .pre .1) (c .before .before .before .before .before .before .before .before .posture .given .1), c .before .before .before .before .before .before .before .before .before .before .before .before .before .before .before .before .before .before .before .pre .2, begun-poised (c .before .before .before .before .before .before .before .before .before .before .before .before .before .before .before .before .before .before .before .pre .2 .segmented) (omega arith) (c .before .before .before .before .before .before .before .before .before .before .before .before .before .before .before .before .before .before .before .pre .3))
+run-turn-requires c κs = (posture-held _ _ (c .before .before .before .before .before .before .before .before .before .before .before .before .before .before .pre .0) (c .before .before .before .before .before .before .before .before .posture .given .1), c .before .before .before .before .before .before .before .before .before .before .before .before .before .before .pre .1, begun-poised (c .before .before .before .before .before .before .before .before .before .before .before .before .before .before .pre .1 .segmented) (omega arith) (c .before .before .before .before .before .before .before .before .before .before .before .before .before .before .pre .2))
 
 returns : tie.Need-returns
-returns c = (c .before .before .before .before .before .before .before .before .before .before .before .pre .0, λ ss b g. accepted _ _ _ (c .enum-told .given .1) g)
+returns c = λ ss b g. accepted _ _ _ (c .enum-told .given .1) g
 
 same-length : tie.Need-same-length
 same-length c = search needs
@@ -25,23 +25,8 @@ same-length c = search needs
 same-length-2 : tie.Need-same-length-2
 same-length-2 c = search needs
 
-same-length-3 : tie.Need-same-length-3
-same-length-3 c = search needs
-
-same-length-4 : tie.Need-same-length-4
-same-length-4 c = search needs
-
-same-length-5 : tie.Need-same-length-5
-same-length-5 c = search needs
-
-same-length-6 : tie.Need-same-length-6
-same-length-6 c = search needs
-
-same-length-7 : tie.Need-same-length-7
-same-length-7 c = search needs
-
 returns-2 : tie.Need-returns-2
-returns-2 c = (c .before .before .before .before .before .before .before .before .before .before .before .before .before .before .run-turn .ensures .0, λ ss b g. rejected _ _ _ _ ss b _ (c .before .before .before .before .before .before .before .before .before .before .before .before .before .before .before .before .before .before .before .before .before .before .before .posture .given .1) (c .before .before .before .before .before .before .before .before .before .before .before .before .before .before .run-turn .ensures .1 _ 128 ss b _ (reject-pass _) g))
+returns-2 c = λ ss b g. rejected _ _ _ _ ss b _ (c .before .before .before .before .before .before .before .before .before .before .before .before .before .posture .given .1) (c .before .before .before .before .run-turn .ensures _ 128 ss b _ (reject-pass _) g)
 
 pub run-posture-spec : {M : Type 1} → statement M
 run-posture-spec =
@@ -53,9 +38,4 @@ run-posture-spec =
     returns
     same-length
     same-length-2
-    same-length-3
-    same-length-4
-    same-length-5
-    same-length-6
-    same-length-7
     returns-2)

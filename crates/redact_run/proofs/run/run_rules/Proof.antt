@@ -17,43 +17,34 @@ Inv-loop key counts text segs cells₀ store₀ report₀ value₀ new₀ bytes�
     RulesTo key (counts .separators) (counts .«last_cr») text segs (counts .segments) (counts .leaves) (policy .sweep) (policy .rules) k (buffers named₀ cells₀ store₀ report₀ bytes₀ known₀) done₀ (buffers named cells store report bytes known) done
     × (k ≤ policy .count)
     × (length cells ≡ length cells₀)
-    × (length store ≡ length store₀)
     × (length report ≡ length report₀)
-    × (length value ≡ length value₀)
-    × (length new ≡ length new₀)
-    × (length bytes ≡ length bytes₀)
-    × (length known ≡ length known₀)
-    × (length named ≡ 4096)
 
 abbrev μ-loop : tie.MeasureT-loop
 μ-loop key counts text segs cells₀ store₀ report₀ value₀ new₀ bytes₀ known₀ policy named₀ done₀ k₀ cells store report value new bytes known named done k = policy .count - k
 
 loop-holds : tie.Need-loop-holds Inv-loop μ-loop
-loop-holds c = (rules-start _ _ _ _ _ _ _ _ _ _ _, omega arith, refl, refl, refl, refl, refl, refl, refl, c .before .before .before .before .before .before .before .before .before .before .pre .0)
+loop-holds c = (rules-start _ _ _ _ _ _ _ _ _ _ _, omega arith, refl, refl)
 
 mul-rule : tie.Need-mul-rule Inv-loop μ-loop
-mul-rule c = search (needs, c .loop-test, c .before .before .before .before .before .before .before .before .before .before .before .before .pre .1 .few, c .before .before .before .before .before .before .before .before .before .before .before .before .pre .1 .long)
+mul-rule c = search (needs, c .loop-test, c .before .before .before .before .before .before .before .pre .0 .few, c .before .before .before .before .before .before .before .pre .0 .long)
 
 element-copy-out-rule : tie.Need-element-copy-out-rule Inv-loop μ-loop
-element-copy-out-rule c = search (needs, c .loop-test, c .before .before .before .before .before .before .before .before .before .before .before .before .pre .1 .few, c .before .before .before .before .before .before .before .before .before .before .before .before .pre .1 .long)
+element-copy-out-rule c = search (needs, c .loop-test, c .before .before .before .before .before .before .before .pre .0 .few, c .before .before .before .before .before .before .before .pre .0 .long)
 
 turn-of-requires : tie.Need-turn-of-requires Inv-loop μ-loop
 turn-of-requires c κs = search needs
 
-slice-aggregate-next : tie.Need-slice-aggregate-next Inv-loop μ-loop
-slice-aggregate-next c = search (needs, c .before .before .before .before .loop .inv .9)
-
 next-requires : tie.Need-next-requires Inv-loop μ-loop
-next-requires c κs = (c .before .before .before .before .before .before .before .before .turn-of .ensures .held _ (c .before .before .before .before .before .before .before .before .before .before .before .before .before .before .before .before .before .before .before .before .before .before .pre .1 .rules .each _ _ (omega (arith, c .before .before .before .before .before .before .before .before .before .before .loop-test)) .path) (c .before .before .before .before .before .before .before .before .before .before .before .before .before .before .before .before .before .before .before .before .before .before .pre .1 .rules .each _ _ (omega (arith, c .before .before .before .before .before .before .before .before .before .before .loop-test)) .action), record { policy = c .before .before .before .before .before .before .before .before .before .before .before .before .before .before .before .before .before .before .before .before .before .before .pre .2 .policy; named = c .before .before .before .before .before .before .before .before .before .before .before .before .before .before .before .before .before .before .before .before .before .before .pre .2 .named; segmented = c .before .before .before .before .before .before .before .before .before .before .before .before .before .before .before .before .before .before .before .before .before .before .pre .2 .segmented; leaves = c .before .before .before .before .before .before .before .before .before .before .before .before .before .before .before .before .before .before .before .before .before .before .pre .2 .leaves; wide = omega (arith, c .before .before .before .before .before .before .before .before .before .before .before .loop .inv .3, c .before .before .before .before .before .before .before .before .before .before .before .before .before .before .before .before .before .before .before .before .before .before .pre .2 .wide); narrow = omega (arith, c .before .before .before .before .before .before .before .before .before .before .before .loop .inv .3, c .before .before .before .before .before .before .before .before .before .before .before .before .before .before .before .before .before .before .before .before .before .before .pre .2 .narrow); value-room = omega (arith, c .before .before .before .before .before .before .before .before .before .before .before .loop .inv .5, c .before .before .before .before .before .before .before .before .before .before .before .before .before .before .before .before .before .before .before .before .before .before .pre .2 .value-room); new-room = omega (arith, c .before .before .before .before .before .before .before .before .before .before .before .loop .inv .6, c .before .before .before .before .before .before .before .before .before .before .before .before .before .before .before .before .before .before .before .before .before .before .pre .2 .new-room) }, rules-poised _ _ _ _ _ _ _ _ _ _ _ _ _ _ (c .before .before .before .before .before .before .before .before .before .before .before .loop .inv .0) (c .before .before .before .before .before .before .before .before .before .before .before .before .before .before .before .before .before .before .before .before .before .before .pre .2 .segmented) (omega (arith, c .before .before .before .before .before .before .before .before .before .before .before .loop .inv .1, c .before .before .before .before .before .before .before .before .before .before .before .before .before .before .before .before .before .before .before .before .before .before .pre .1 .few)) (c .before .before .before .before .before .before .before .before .before .before .before .before .before .before .before .before .before .before .before .before .before .before .pre .3))
+next-requires c κs = (c .before .before .before .before .before .before .before .before .turn-of .ensures .held _ (c .before .before .before .before .before .before .before .before .before .before .before .before .before .before .before .before .before .pre .0 .rules .each _ _ (omega (arith, c .before .before .before .before .before .before .before .before .before .before .loop-test)) .path) (c .before .before .before .before .before .before .before .before .before .before .before .before .before .before .before .before .before .pre .0 .rules .each _ _ (omega (arith, c .before .before .before .before .before .before .before .before .before .before .loop-test)) .action), c .before .before .before .before .before .before .before .before .before .before .before .before .before .before .before .before .before .pre .1, rules-poised _ _ _ _ _ _ _ _ _ _ _ _ _ _ (c .before .before .before .before .before .before .before .before .before .before .before .loop .inv .0) (c .before .before .before .before .before .before .before .before .before .before .before .before .before .before .before .before .before .pre .1 .segmented) (omega (arith, c .before .before .before .before .before .before .before .before .before .before .before .loop .inv .1, c .before .before .before .before .before .before .before .before .before .before .before .before .before .before .before .before .before .pre .0 .few)) (c .before .before .before .before .before .before .before .before .before .before .before .before .before .before .before .before .before .pre .2))
 
 add-k : tie.Need-add-k Inv-loop μ-loop
-add-k c = search (needs, c .before .before .before .before .before .before .before .before .before .before .before .before .before .before .before .before .before .before .before .before .before .before .before .before .before .before .loop-test, c .before .before .before .before .before .before .before .before .before .before .before .before .before .before .before .before .before .before .before .before .before .before .before .before .before .before .before .before .before .before .before .before .before .before .before .before .before .before .pre .1 .few)
+add-k c = search (needs, c .before .before .before .before .before .before .before .before .before .before .before .before .before .before .before .loop-test, c .before .before .before .before .before .before .before .before .before .before .before .before .before .before .before .before .before .before .before .before .before .before .pre .0 .few)
 
 loop-less : tie.Need-loop-less Inv-loop μ-loop
-loop-less c = search (needs, c .before .before .before .before .before .before .before .before .before .before .before .before .before .before .before .before .before .before .before .before .before .before .before .before .before .before .loop-test)
+loop-less c = search (needs, c .before .before .before .before .before .before .before .before .before .before .before .before .before .before .before .loop-test)
 
 loop-again : tie.Need-loop-again Inv-loop μ-loop
-loop-again c = (rules-more _ _ _ _ _ _ _ _ _ _ _ _ _ _ (c .before .before .before .before .before .before .before .before .before .before .before .before .before .before .before .before .before .before .before .before .before .before .before .before .before .before .before .loop .inv .0) (omega (arith, c .before .before .before .before .before .before .before .before .before .before .before .before .before .before .before .before .before .before .before .before .before .before .before .before .before .before .loop-test, c .before .before .before .before .before .before .before .before .before .before .before .before .before .before .before .before .before .before .before .before .before .before .before .before .before .before .before .before .before .before .before .before .before .before .before .before .before .before .pre .1 .few, c .before .before .before .before .before .before .before .before .before .before .before .before .before .before .before .before .before .before .before .before .before .before .before .before .before .before .before .before .before .before .before .before .before .before .before .before .before .before .pre .1 .long)) _ (c .before .before .before .before .before .before .before .before .before .before .before .before .before .before .before .before .before .before .before .before .before .before .before .before .turn-of .ensures) _ _ (c .before .before .before .before .before .before .before .before .before .before .before .before .before .before .before .next .ensures), omega (arith, c .before .before .before .before .before .before .before .before .before .before .before .before .before .before .before .before .before .before .before .before .before .before .before .before .before .before .loop-test), search needs, search needs, search needs, search needs, search needs, search needs, search needs, search (needs, c .before .before .before .before .before .before .before .before .before .before .before .before .before .before .before .before .before .before .before .before .before .before .before .before .before .before .before .loop .inv .9))
+loop-again c = (rules-more _ _ _ _ _ _ _ _ _ _ _ _ _ _ (c .before .before .before .before .before .before .before .before .before .before .before .before .before .before .before .before .loop .inv .0) (omega (arith, c .before .before .before .before .before .before .before .before .before .before .before .before .before .before .before .loop-test, c .before .before .before .before .before .before .before .before .before .before .before .before .before .before .before .before .before .before .before .before .before .before .pre .0 .few, c .before .before .before .before .before .before .before .before .before .before .before .before .before .before .before .before .before .before .before .before .before .before .pre .0 .long)) _ (c .before .before .before .before .before .before .before .before .before .before .before .before .before .turn-of .ensures) _ _ (c .before .before .before .before .next .ensures), omega (arith, c .before .before .before .before .before .before .before .before .before .before .before .before .before .before .before .loop-test), search needs, search needs)
 
 same-length : tie.Need-same-length Inv-loop μ-loop
 same-length c = search needs
@@ -61,23 +52,8 @@ same-length c = search needs
 same-length-2 : tie.Need-same-length-2 Inv-loop μ-loop
 same-length-2 c = search needs
 
-same-length-3 : tie.Need-same-length-3 Inv-loop μ-loop
-same-length-3 c = search needs
-
-same-length-4 : tie.Need-same-length-4 Inv-loop μ-loop
-same-length-4 c = search needs
-
-same-length-5 : tie.Need-same-length-5 Inv-loop μ-loop
-same-length-5 c = search needs
-
-same-length-6 : tie.Need-same-length-6 Inv-loop μ-loop
-same-length-6 c = search needs
-
-same-length-7 : tie.Need-same-length-7 Inv-loop μ-loop
-same-length-7 c = search needs
-
 returns : tie.Need-returns Inv-loop μ-loop
-returns c = (c .before .loop .inv .9, rules-done _ _ _ _ _ _ _ _ _ _ _ _ _ _ (c .before .loop .inv .0) _ (omega arith) (c .before .loop .inv .1) (c .before .before .before .before .before .before .before .before .before .before .before .before .pre .1 .few))
+returns c = rules-done _ _ _ _ _ _ _ _ _ _ _ _ _ _ (c .before .loop .inv .0) _ (omega arith) (c .before .loop .inv .1) (c .before .before .before .before .before .before .before .pre .0 .few)
 
 pub run-rules-spec : {M : Type 1} → statement M
 run-rules-spec =
@@ -89,16 +65,10 @@ run-rules-spec =
     mul-rule
     element-copy-out-rule
     turn-of-requires
-    slice-aggregate-next
     next-requires
     add-k
     loop-less
     loop-again
     same-length
     same-length-2
-    same-length-3
-    same-length-4
-    same-length-5
-    same-length-6
-    same-length-7
     returns)

@@ -18,7 +18,7 @@ returns : tie.Need-returns
 returns c = λ ss b g. unswept _ _ _ _ (sym (c .before .knows-any .ensures) ∙ not-true _ (c .if1 .taken)) g
 
 run-turn-requires : tie.Need-run-turn-requires
-run-turn-requires c κs = (c .before .before .before .before .before .before .before .before .before .before .before .before .before .before .before .before .before .before .pre .0, tt, c .before .before .before .before .before .before .before .before .before .before .before .before .before .before .before .before .before .before .pre .1, begun-poised (c .before .before .before .before .before .before .before .before .before .before .before .before .before .before .before .before .before .before .pre .1 .segmented) (omega arith) (c .before .before .before .before .before .before .before .before .before .before .before .before .before .before .before .before .before .before .pre .2))
+run-turn-requires c κs = (tt, c .before .before .before .before .before .before .before .before .before .before .before .before .before .pre .0, begun-poised (c .before .before .before .before .before .before .before .before .before .before .before .before .before .pre .0 .segmented) (omega arith) (c .before .before .before .before .before .before .before .before .before .before .before .before .before .pre .1))
 
 same-length : tie.Need-same-length
 same-length c = search needs
@@ -26,24 +26,9 @@ same-length c = search needs
 same-length-2 : tie.Need-same-length-2
 same-length-2 c = search needs
 
-same-length-3 : tie.Need-same-length-3
-same-length-3 c = search needs
-
-same-length-4 : tie.Need-same-length-4
-same-length-4 c = search needs
-
-same-length-5 : tie.Need-same-length-5
-same-length-5 c = search needs
-
-same-length-6 : tie.Need-same-length-6
-same-length-6 c = search needs
-
-same-length-7 : tie.Need-same-length-7
-same-length-7 c = search needs
-
 returns-2 : tie.Need-returns-2
 unfolding unnamedPass
-returns-2 c = λ ss b g. c .before .before .before .before .before .before .before .before .before .before .before .before .before .before .run-turn .ensures .1 _ 129 ss b _ (sweep-pass _ _ _ g) g
+returns-2 c = λ ss b g. c .before .before .before .before .run-turn .ensures _ 129 ss b _ (sweep-pass _ _ _ g) g
 
 pub run-sweep-spec : {M : Type 1} → statement M
 run-sweep-spec =
@@ -54,9 +39,4 @@ run-sweep-spec =
     run-turn-requires
     same-length
     same-length-2
-    same-length-3
-    same-length-4
-    same-length-5
-    same-length-6
-    same-length-7
     returns-2)

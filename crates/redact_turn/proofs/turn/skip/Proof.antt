@@ -20,10 +20,10 @@ abbrev μ-loop : tie.MeasureT-loop
 μ-loop turn field g named cells i end j₀ j = end - j
 
 loop-holds : tie.Need-loop-holds Inv-loop μ-loop
-loop-holds c = skipped-none _ _ _ _ (c .before .before .pre .1)
+loop-holds c = skipped-none _ _ _ _ (c .before .pre .1)
 
-shared-slice-read-works-on : tie.Need-shared-slice-read-works-on Inv-loop μ-loop
-shared-slice-read-works-on c = search needs
+element-copy-out-works-on : tie.Need-element-copy-out-works-on Inv-loop μ-loop
+element-copy-out-works-on c = search needs
 
 works-on-requires : tie.Need-works-on-requires Inv-loop μ-loop
 works-on-requires c κs = search needs
@@ -35,7 +35,7 @@ is-behind-requires : tie.Need-is-behind-requires Inv-loop μ-loop
 is-behind-requires c κs = search needs
 
 returns-2 : tie.Need-returns-2 Inv-loop μ-loop
-returns-2 c = skipped-rest _ _ _ _ (c .before .before .before .before .before .before .loop .inv) (c .before .before .before .before .before .before .before .before .before .pre .4) (omega (arith, c .before .before .before .before .before .loop-test)) (rw (c .before .before .before .before .before .before .before .before .before .pre .0) at (sym (c .before .is-behind .ensures) ∙ c .if2 .taken))
+returns-2 c = skipped-rest _ _ _ _ (c .before .before .before .before .before .before .loop .inv) (c .before .before .before .before .before .before .before .before .pre .4) (omega (arith, c .before .before .before .before .before .loop-test)) (rw (c .before .before .before .before .before .before .before .before .pre .0) at (sym (c .before .is-behind .ensures) ∙ c .if2 .taken))
 
 add-j : tie.Need-add-j Inv-loop μ-loop
 add-j c = search needs
@@ -57,7 +57,7 @@ skip-spec =
     Inv-loop
     μ-loop
     loop-holds
-    shared-slice-read-works-on
+    element-copy-out-works-on
     works-on-requires
     returns
     is-behind-requires

@@ -13,32 +13,32 @@ use Rattle.redact_pass.specs.Visit.{marked}
 use Rattle.redact_turn.proofs.Funds.{funded-ready, funded-node}
 use Rattle.redact_turn.proofs.Turns.{apply-held, collapse-held, reject-held, enters-apply, enters-collapse, visited-apply, visited-collapse, visited-reject, visited-sweep, apply-flat, collapse-nodes, reject-flat, sweep-flat}
 
-slice-read-was : tie.Need-slice-read-was
-slice-read-was c = search needs
+element-copy-out-was : tie.Need-element-copy-out-was
+element-copy-out-was c = search needs
 
 enum-known-turn : tie.Need-enum-known-turn
 enum-known-turn c = search needs
 
 apply-leaf-requires : tie.Need-apply-leaf-requires
-apply-leaf-requires c κs = (apply-held _ _ (c .before .before .before .before .before .before .before .before .before .before .before .before .before .before .before .before .before .before .before .before .before .pre .0) (c .before .before .before .before .before .before .before .before .before .turn .given .1) .1, apply-held _ _ (c .before .before .before .before .before .before .before .before .before .before .before .before .before .before .before .before .before .before .before .before .before .pre .0) (c .before .before .before .before .before .before .before .before .before .turn .given .1) .2, enters-apply _ _ _ (c .before .before .before .before .before .before .before .before .before .turn .given .1) refl ∙ c .before .before .before .before .before .before .before .before .before .before .before .before .before .before .before .before .before .before .before .before .before .pre .1, funded-ready (c .before .before .before .before .before .before .before .before .before .before .before .before .before .before .before .before .before .before .before .before .before .pre .5) (apply-flat (c .before .before .before .before .before .before .before .before .before .turn .given .1)) (omega (arith, c .before .before .before .before .before .before .before .before .before .before .before .before .before .before .before .before .before .before .before .before .before .pre .2, c .before .before .before .before .before .before .before .before .before .before .before .before .before .before .before .before .before .before .before .before .before .pre .3)) (c .before .before .before .before .before .before .before .before .before .before .before .before .before .before .before .before .before .before .before .before .before .pre .4 .good), c .before .before .before .before .before .before .before .before .before .before .before .before .before .before .before .before .before .before .before .before .before .pre .4 .known, c .before .before .before .before .before .before .before .before .before .before .before .before .before .before .before .before .before .before .before .before .before .pre .6, c .before .before .before .before .before .before .before .before .before .before .before .before .before .before .before .before .before .before .before .before .before .pre .7, c .before .before .before .before .before .before .before .before .before .before .before .before .before .before .before .before .before .before .before .before .before .pre .8, c .before .before .before .before .before .before .before .before .before .before .before .before .before .before .before .before .before .before .before .before .before .pre .4 .marks)
+apply-leaf-requires c κs = (apply-held _ _ (c .before .before .before .before .before .before .before .before .before .before .before .before .before .before .before .pre .0) (c .before .before .before .before .before .before .before .before .before .turn .given .1) .1, apply-held _ _ (c .before .before .before .before .before .before .before .before .before .before .before .before .before .before .before .pre .0) (c .before .before .before .before .before .before .before .before .before .turn .given .1) .2, enters-apply _ _ _ (c .before .before .before .before .before .before .before .before .before .turn .given .1) refl ∙ c .before .before .before .before .before .before .before .before .before .before .before .before .before .before .before .pre .1, funded-ready (c .before .before .before .before .before .before .before .before .before .before .before .before .before .before .before .pre .5) (apply-flat (c .before .before .before .before .before .before .before .before .before .turn .given .1)) (omega (arith, c .before .before .before .before .before .before .before .before .before .before .before .before .before .before .before .pre .2, c .before .before .before .before .before .before .before .before .before .before .before .before .before .before .before .pre .3)) (c .before .before .before .before .before .before .before .before .before .before .before .before .before .before .before .pre .4 .good), c .before .before .before .before .before .before .before .before .before .before .before .before .before .before .before .pre .4 .known, c .before .before .before .before .before .before .before .before .before .before .before .before .before .before .before .pre .6, c .before .before .before .before .before .before .before .before .before .before .before .before .before .before .before .pre .4 .marks)
 
 enum-known-turn-2 : tie.Need-enum-known-turn-2
 enum-known-turn-2 c = search needs
 
 collapse-leaf-requires : tie.Need-collapse-leaf-requires
-collapse-leaf-requires c κs = (collapse-held _ _ (c .before .before .before .before .before .before .before .before .before .before .before .before .before .before .before .before .before .before .before .pre .0) (c .before .before .before .before .before .before .before .turn2 .given .1) .1, collapse-held _ _ (c .before .before .before .before .before .before .before .before .before .before .before .before .before .before .before .before .before .before .before .pre .0) (c .before .before .before .before .before .before .before .turn2 .given .1) .2, collapse-held _ _ (c .before .before .before .before .before .before .before .before .before .before .before .before .before .before .before .before .before .before .before .pre .0) (c .before .before .before .before .before .before .before .turn2 .given .1) .3, enters-collapse _ _ _ (c .before .before .before .before .before .before .before .turn2 .given .1) refl ∙ c .before .before .before .before .before .before .before .before .before .before .before .before .before .before .before .before .before .before .before .pre .1, funded-node (c .before .before .before .before .before .before .before .before .before .before .before .before .before .before .before .before .before .before .before .pre .5) (collapse-nodes (c .before .before .before .before .before .before .before .turn2 .given .1)) (c .before .before .before .before .before .before .before .before .before .before .before .before .before .before .before .before .before .before .before .pre .2) (c .before .before .before .before .before .before .before .before .before .before .before .before .before .before .before .before .before .before .before .pre .3) (c .before .before .before .before .before .before .before .before .before .before .before .before .before .before .before .before .before .before .before .pre .4 .good), c .before .before .before .before .before .before .before .before .before .before .before .before .before .before .before .before .before .before .before .pre .4 .known, c .before .before .before .before .before .before .before .before .before .before .before .before .before .before .before .before .before .before .before .pre .6, c .before .before .before .before .before .before .before .before .before .before .before .before .before .before .before .before .before .before .before .pre .7)
+collapse-leaf-requires c κs = (collapse-held _ _ (c .before .before .before .before .before .before .before .before .before .before .before .before .before .pre .0) (c .before .before .before .before .before .before .before .turn2 .given .1) .1, collapse-held _ _ (c .before .before .before .before .before .before .before .before .before .before .before .before .before .pre .0) (c .before .before .before .before .before .before .before .turn2 .given .1) .2, collapse-held _ _ (c .before .before .before .before .before .before .before .before .before .before .before .before .before .pre .0) (c .before .before .before .before .before .before .before .turn2 .given .1) .3, enters-collapse _ _ _ (c .before .before .before .before .before .before .before .turn2 .given .1) refl ∙ c .before .before .before .before .before .before .before .before .before .before .before .before .before .pre .1, funded-node (c .before .before .before .before .before .before .before .before .before .before .before .before .before .pre .5) (collapse-nodes (c .before .before .before .before .before .before .before .turn2 .given .1)) (c .before .before .before .before .before .before .before .before .before .before .before .before .before .pre .2) (c .before .before .before .before .before .before .before .before .before .before .before .before .before .pre .3) (c .before .before .before .before .before .before .before .before .before .before .before .before .before .pre .4 .good), c .before .before .before .before .before .before .before .before .before .before .before .before .before .pre .4 .known, c .before .before .before .before .before .before .before .before .before .before .before .before .before .pre .6)
 
 enum-known-turn-3 : tie.Need-enum-known-turn-3
 enum-known-turn-3 c = search needs
 
 reject-leaf-requires : tie.Need-reject-leaf-requires
-reject-leaf-requires c κs = (reject-held _ _ (c .before .before .before .before .before .before .before .before .before .before .before .before .before .before .before .before .before .before .pre .0) (c .before .before .before .before .before .before .turn3 .given .1), funded-ready (c .before .before .before .before .before .before .before .before .before .before .before .before .before .before .before .before .before .before .pre .5) (reject-flat (c .before .before .before .before .before .before .turn3 .given .1)) (omega (arith, c .before .before .before .before .before .before .before .before .before .before .before .before .before .before .before .before .before .before .pre .2, c .before .before .before .before .before .before .before .before .before .before .before .before .before .before .before .before .before .before .pre .3)) (c .before .before .before .before .before .before .before .before .before .before .before .before .before .before .before .before .before .before .pre .4 .good), c .before .before .before .before .before .before .before .before .before .before .before .before .before .before .before .before .before .before .pre .6, c .before .before .before .before .before .before .before .before .before .before .before .before .before .before .before .before .before .before .pre .7, c .before .before .before .before .before .before .before .before .before .before .before .before .before .before .before .before .before .before .pre .8)
+reject-leaf-requires c κs = (reject-held _ _ (c .before .before .before .before .before .before .before .before .before .before .before .before .pre .0) (c .before .before .before .before .before .before .turn3 .given .1), funded-ready (c .before .before .before .before .before .before .before .before .before .before .before .before .pre .5) (reject-flat (c .before .before .before .before .before .before .turn3 .given .1)) (omega (arith, c .before .before .before .before .before .before .before .before .before .before .before .before .pre .2, c .before .before .before .before .before .before .before .before .before .before .before .before .pre .3)) (c .before .before .before .before .before .before .before .before .before .before .before .before .pre .4 .good), c .before .before .before .before .before .before .before .before .before .before .before .before .pre .6)
 
 enum-told : tie.Need-enum-told
 enum-told c = search needs
 
 sweep-leaf-requires : tie.Need-sweep-leaf-requires
-sweep-leaf-requires c κs = (c .before .before .before .before .before .before .before .before .before .before .before .before .before .before .before .before .before .before .before .pre .4 .known, funded-ready (c .before .before .before .before .before .before .before .before .before .before .before .before .before .before .before .before .before .before .before .pre .5) (sweep-flat (c .before .before .before .before .before .before .before .enum-told .given .1)) (omega (arith, c .before .before .before .before .before .before .before .before .before .before .before .before .before .before .before .before .before .before .before .pre .2, c .before .before .before .before .before .before .before .before .before .before .before .before .before .before .before .before .before .before .before .pre .3)) (c .before .before .before .before .before .before .before .before .before .before .before .before .before .before .before .before .before .before .before .pre .4 .good), c .before .before .before .before .before .before .before .before .before .before .before .before .before .before .before .before .before .before .before .pre .6, c .before .before .before .before .before .before .before .before .before .before .before .before .before .before .before .before .before .before .before .pre .7, c .before .before .before .before .before .before .before .before .before .before .before .before .before .before .before .before .before .before .before .pre .8)
+sweep-leaf-requires c κs = (c .before .before .before .before .before .before .before .before .before .before .before .before .before .pre .4 .known, funded-ready (c .before .before .before .before .before .before .before .before .before .before .before .before .before .pre .5) (sweep-flat (c .before .before .before .before .before .before .before .enum-told .given .1)) (omega (arith, c .before .before .before .before .before .before .before .before .before .before .before .before .before .pre .2, c .before .before .before .before .before .before .before .before .before .before .before .before .before .pre .3)) (c .before .before .before .before .before .before .before .before .before .before .before .before .before .pre .4 .good), c .before .before .before .before .before .before .before .before .before .before .before .before .before .pre .6)
 
 same-length : tie.Need-same-length
 same-length c = search needs
@@ -46,11 +46,17 @@ same-length c = search needs
 same-length-2 : tie.Need-same-length-2
 same-length-2 c = search needs
 
+returns : tie.Need-returns
+returns c = visited-apply _ _ _ _ _ _ _ _ _ _ _ (c .before .before .before .before .before .before .before .before .before .before .before .before .before .before .turn .given .1) _ (c .before .before .before .before .apply-leaf .ensures _)
+
 same-length-3 : tie.Need-same-length-3
 same-length-3 c = search needs
 
 same-length-4 : tie.Need-same-length-4
 same-length-4 c = search needs
+
+returns-2 : tie.Need-returns-2
+returns-2 c = visited-collapse _ _ _ _ _ _ _ _ _ _ _ (c .before .before .before .before .before .before .before .before .before .before .before .before .turn2 .given .1) _ (c .before .before .before .before .collapse-leaf .ensures _ _)
 
 same-length-5 : tie.Need-same-length-5
 same-length-5 c = search needs
@@ -58,85 +64,25 @@ same-length-5 c = search needs
 same-length-6 : tie.Need-same-length-6
 same-length-6 c = search needs
 
+returns-3 : tie.Need-returns-3
+unfolding marked
+returns-3 c = visited-reject _ _ _ _ _ _ _ _ _ _ _ _ (c .before .before .before .before .before .before .before .before .before .before .before .before .before .before .before .before .before .pre .4 .known) _ _ _ _ _ _ (c .before .before .before .before .before .before .before .before .before .before .before .turn3 .given .1) _ (c .before .before .before .before .reject-leaf .ensures _ _ _ _ refl)
+
 same-length-7 : tie.Need-same-length-7
 same-length-7 c = search needs
 
 same-length-8 : tie.Need-same-length-8
 same-length-8 c = search needs
 
-returns : tie.Need-returns
-returns c = visited-apply _ _ _ _ _ _ _ _ _ _ _ (c .before .before .before .before .before .before .before .before .before .before .before .before .before .before .before .before .before .before .before .before .before .before .before .before .before .before .turn .given .1) _ (c .before .before .before .before .before .before .before .before .before .before .before .before .before .before .before .before .apply-leaf .ensures _)
-
-same-length-9 : tie.Need-same-length-9
-same-length-9 c = search needs
-
-same-length-10 : tie.Need-same-length-10
-same-length-10 c = search needs
-
-same-length-11 : tie.Need-same-length-11
-same-length-11 c = search needs
-
-same-length-12 : tie.Need-same-length-12
-same-length-12 c = search needs
-
-same-length-13 : tie.Need-same-length-13
-same-length-13 c = search needs
-
-same-length-14 : tie.Need-same-length-14
-same-length-14 c = search needs
-
-returns-2 : tie.Need-returns-2
-returns-2 c = visited-collapse _ _ _ _ _ _ _ _ _ _ _ (c .before .before .before .before .before .before .before .before .before .before .before .before .before .before .before .before .before .before .before .before .turn2 .given .1) _ (c .before .before .before .before .before .before .before .before .before .before .before .before .collapse-leaf .ensures _ _)
-
-same-length-15 : tie.Need-same-length-15
-same-length-15 c = search needs
-
-same-length-16 : tie.Need-same-length-16
-same-length-16 c = search needs
-
-same-length-17 : tie.Need-same-length-17
-same-length-17 c = search needs
-
-same-length-18 : tie.Need-same-length-18
-same-length-18 c = search needs
-
-same-length-19 : tie.Need-same-length-19
-same-length-19 c = search needs
-
-returns-3 : tie.Need-returns-3
-unfolding marked
-returns-3 c = visited-reject _ _ _ _ _ _ _ _ _ _ _ _ (c .before .before .before .before .before .before .before .before .before .before .before .before .before .before .before .before .before .before .before .before .before .before .before .before .before .before .before .before .before .pre .4 .known) _ _ _ _ _ _ (c .before .before .before .before .before .before .before .before .before .before .before .before .before .before .before .before .before .turn3 .given .1) _ (c .before .before .before .before .before .before .before .before .before .before .reject-leaf .ensures _ _ _ _ refl)
-
-same-length-20 : tie.Need-same-length-20
-same-length-20 c = search needs
-
-same-length-21 : tie.Need-same-length-21
-same-length-21 c = search needs
-
-same-length-22 : tie.Need-same-length-22
-same-length-22 c = search needs
-
-same-length-23 : tie.Need-same-length-23
-same-length-23 c = search needs
-
-same-length-24 : tie.Need-same-length-24
-same-length-24 c = search needs
-
-same-length-25 : tie.Need-same-length-25
-same-length-25 c = search needs
-
-same-length-26 : tie.Need-same-length-26
-same-length-26 c = search needs
-
 returns-4 : tie.Need-returns-4
 unfolding marked
-returns-4 c = visited-sweep _ _ _ _ _ _ _ _ _ _ _ _ (c .before .before .before .before .before .before .before .before .before .before .before .before .before .before .before .before .before .before .before .before .before .before .before .before .before .before .before .before .before .before .pre .4 .known) _ _ _ _ _ _ (c .before .before .before .before .before .before .before .before .before .before .before .before .before .before .before .before .before .before .enum-told .given .1) _ (c .before .before .before .before .before .before .before .before .before .before .sweep-leaf .ensures _ _ _ _ refl)
+returns-4 c = visited-sweep _ _ _ _ _ _ _ _ _ _ _ _ (c .before .before .before .before .before .before .before .before .before .before .before .before .before .before .before .before .before .before .pre .4 .known) _ _ _ _ _ _ (c .before .before .before .before .before .before .before .before .before .before .before .before .enum-told .given .1) _ (c .before .before .before .before .sweep-leaf .ensures _ _ _ _ refl)
 
 pub visit-spec : {M : Type 1} → statement M
 visit-spec =
     tie.close
     (tie.spec
-    slice-read-was
+    element-copy-out-was
     enum-known-turn
     apply-leaf-requires
     enum-known-turn-2
@@ -147,31 +93,13 @@ visit-spec =
     sweep-leaf-requires
     same-length
     same-length-2
+    returns
     same-length-3
     same-length-4
+    returns-2
     same-length-5
     same-length-6
+    returns-3
     same-length-7
     same-length-8
-    returns
-    same-length-9
-    same-length-10
-    same-length-11
-    same-length-12
-    same-length-13
-    same-length-14
-    returns-2
-    same-length-15
-    same-length-16
-    same-length-17
-    same-length-18
-    same-length-19
-    returns-3
-    same-length-20
-    same-length-21
-    same-length-22
-    same-length-23
-    same-length-24
-    same-length-25
-    same-length-26
     returns-4)

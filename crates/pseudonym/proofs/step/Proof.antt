@@ -1,7 +1,7 @@
 use borrow.Author.Needs.{needs}
-use Rattle.er7_redact.proofs.pseudonym.step.Statement.{statement}
-use Rattle.er7_redact.proofs.pseudonym.step.Tie as tie
-use Rattle.er7_redact.specs.Pseudonym.{step}
+use Rattle.pseudonym.proofs.step.Statement.{statement}
+use Rattle.pseudonym.proofs.step.Tie as tie
+use Rattle.pseudonym.specs.Pseudonym.{step}
 
 wrapping-mul-requires : tie.Need-wrapping-mul-requires
 wrapping-mul-requires c κs = search needs

@@ -1,9 +1,9 @@
 use borrow.Author.Needs.{needs}
-use Rattle.er7_redact.proofs.pseudonym.wrapping_mul.Statement.{statement}
-use Rattle.er7_redact.proofs.pseudonym.wrapping_mul.Tie as tie
+use Rattle.pseudonym.proofs.wrapping_mul.Statement.{statement}
+use Rattle.pseudonym.proofs.wrapping_mul.Tie as tie
 use mathlib.Core.Path.{_∙_}
 use native.Mathlib.Omega.{arith}
-use Rattle.er7_redact.proofs.Products.{halves-fit, low-product}
+use Rattle.pseudonym.proofs.Products.{halves-fit, low-product}
 
 mul-wrapping-add-u64 : tie.Need-mul-wrapping-add-u64
 mul-wrapping-add-u64 c = record { fits = halves-fit _ _ (omega arith) (omega arith) }

@@ -1,9 +1,9 @@
 use borrow.Author.Needs.{needs}
-use Rattle.er7_redact.proofs.pseudonym.pseudonym.Statement.{statement}
-use Rattle.er7_redact.proofs.pseudonym.pseudonym.Tie as tie
-use Rattle.er7_redact.specs.Pseudonym.{pseudonym}
+use Rattle.pseudonym.proofs.pseudonym.Statement.{statement}
+use Rattle.pseudonym.proofs.pseudonym.Tie as tie
+use Rattle.pseudonym.specs.Pseudonym.{pseudonym}
 use mathlib.Core.Path.{refl}
-use Rattle.er7_redact.proofs.Hashes.{key-then-value}
+use Rattle.pseudonym.proofs.Hashes.{key-then-value}
 
 slice-aggregate-eight-bytes-at : tie.Need-slice-aggregate-eight-bytes-at
 slice-aggregate-eight-bytes-at c = search needs

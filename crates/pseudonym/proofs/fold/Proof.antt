@@ -1,10 +1,10 @@
-use Rattle.er7_redact.proofs.pseudonym.fold.Statement.{statement}
-use Rattle.er7_redact.proofs.pseudonym.fold.Tie as tie
+use Rattle.pseudonym.proofs.fold.Statement.{statement}
+use Rattle.pseudonym.proofs.fold.Tie as tie
 use Prim.Native.Nat.{_-_}
 use lib.ListN.{length}
 use borrow.Author.Needs.{needs}
 use native.Mathlib.Omega.{arith}
-use Rattle.er7_redact.proofs.Hashes.{Folding, folding-start, folding-more, folding-end}
+use Rattle.pseudonym.proofs.Hashes.{Folding, folding-start, folding-more, folding-end}
 
 abbrev Inv-loop : tie.InvT-loop
 Inv-loop hash s h₀ i₀ h i = Folding hash s i h

@@ -6,7 +6,7 @@ ghost use mathlib.Core.Path.{_≡_};
 ghost use Prim.Native.Nat.{_*_, _%_, _^_, _≤_};
 ghost use lib.ListN.{length};
 ghost use Rattle.text.specs.Text.{Wrote};
-ghost use Rattle.er7_redact.specs.Pseudonym as P;
+ghost use Rattle.pseudonym.specs.Pseudonym as P;
 
 // The hash of no bytes, and the number that every step multiplies by.
 pub const OFFSET: u64 = 0xcbf2_9ce4_8422_2325;

@@ -9,7 +9,7 @@ use Rattle.text.specs.Number.{eightBytes}
 use Rattle.text.proofs.Runs.{drop-step}
 use Rattle.text.proofs.Spelling.{eight-bytes-length}
 use Rattle.text.proofs.Writes.{put-whole}
-use Rattle.er7_redact.specs.Pseudonym.{OFFSET, step, fold}
+use Rattle.pseudonym.specs.Pseudonym.{OFFSET, step, fold}
 
 -- the bytes of one text, and then those of another
 pub fold-append : (h : ℕ) (s t : Text) → fold h (s ++ t) ≡ fold (fold h s) t
