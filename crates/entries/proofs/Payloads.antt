@@ -1,20 +1,19 @@
 -- Laws of what a payload gets. Assumes nothing.
-use mathlib.Core.Path.{_≡_}
+use mathlib.Core.Path.{_≡_, ap}
 use mathlib.Core.Bool.{true, false}
 use mathlib.Core.List.{[]}
-use mathlib.Core.Option.{Option, none, some}
+use mathlib.Core.Option.{Option}
 use Prim.Native.Nat.{ℕ, _≤_, _<_}
 use native.Mathlib.Nat.{zero-add}
-use native.Mathlib.Omega.{arith}
 use borrow.Author.Tests.{lt-ltb, le-ltb}
 use lib.ListN.{length, take}
 use lib.Seq.{take-append-seam}
 use Rattle.text.specs.Text.{Text, all, put, Wrote}
 use Rattle.er7_redact.specs.Action as A
-use Rattle.er7_redact.specs.Action.{asAction, ActionHeld, answer, applied, AppliedIs, room}
+use Rattle.er7_redact.specs.Action.{asAction, ActionHeld, answer, written}
 use Rattle.er7_redact.specs.declared.action.Action.{Action as HeldAction}
-use Rattle.er7_redact.specs.declared.action.Applied.{Applied}
 use Rattle.er7_redact.specs.declared.action.Applied.the-variants.{Written, Nothing}
+use Rattle.er7_redact.proofs.Actions.{answered-text, answered-nothing}
 use Rattle.refusal.specs.declared.Refusal.the-variants.{TooLong, ForeignByte, Withheld}
 use Rattle.refusal.specs.Refusal.{tooLong}
 use Rattle.policy.specs.declared.line.Unrecognised.{Unrecognised as HeldUnrecognised}
@@ -30,17 +29,15 @@ front-wrote {d} {t} {d′} {r} w = rw (w .end, w .text, zero-add (length t), tak
 
 -- ---- an action
 
-pub applied-wrote : (o : Option Text) (t : Text) {d d′ : Text} {r : Applied} {n : ℕ} → AppliedIs o d d′ r → r ≡ Written n → room o ≤ length d → Wrote d 0 (writtenOr t o) d′ n
-unfolding answer applied writtenOr room
-applied-wrote none t g e h = let z : _≡_ {A = ℕ} 0 1 = cc in absurd (omega arith)
-applied-wrote (some w) t {n = n} g e h =
-    let q : length w ≡ n = cc in
-    record { end = omega arith; high = omega arith; text = g .buffer }
+-- what an action writes, or the payload where it writes nothing
+module _ (o : Option Text) (t : Text) where
+  pub written-or : {n : ℕ} → answer o ≡ Written n → writtenOr t o ≡ written o
+  unfolding writtenOr
+  written-or e = ap (writtenOr t) (answered-text o e)
 
-pub applied-none : (o : Option Text) (t : Text) {d d₁ d₂ : Text} {r : Applied} {n : ℕ} → AppliedIs o d d₁ r → r ≡ Nothing → Wrote d₁ 0 t d₂ n → Wrote d 0 (writtenOr t o) d₂ n
-unfolding answer applied writtenOr
-applied-none none t g e w = rw (g .buffer) at w
-applied-none (some x) t g e w = let z : _≡_ {A = ℕ} 0 1 = cc in absurd (omega arith)
+  pub nothing-or : answer o ≡ Nothing → writtenOr t o ≡ t
+  unfolding writtenOr
+  nothing-or e = ap (writtenOr t) (answered-nothing o e)
 
 -- ---- what a payload without a fault gets
 

@@ -50,8 +50,8 @@ fn put_applied(a: Action, policy: &[u8], key: u64, payload: &[u8], output: &mut 
     requires { ⌜ ActionHeld (now policy) a × NeverLong key (asAction (now policy) a) × (length (now payload) ≤ 49152) × (49152 ≤ length (now output)) ⌝ }
     ensures { λ r. ⌜ Wrote (now (output .entry)) 0 (writtenOr (now (payload .entry)) (Actions.apply key (asAction (now (policy .entry)) a) (now (payload .entry)))) (now (output .exit)) r ⌝ }
 {
-    match action::apply(a, policy, key, payload, output) {
-        Applied::Written(n) => n,
+    match action::applied_len(a, payload) {
+        Applied::Written(_) => action::apply(a, policy, key, payload, output, 0),
         Applied::Nothing => copy_at(output, 0, payload),
     }
 }

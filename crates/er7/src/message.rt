@@ -7,3 +7,12 @@ pub struct Place {
     pub component: usize,
     pub subcomponent: usize,
 }
+
+// A segment's name, its number among the segments of that name, and whether it is the header.
+pub struct Label {
+    pub a: u8,
+    pub b: u8,
+    pub c: u8,
+    pub occurrence: usize,
+    pub header: bool,
+}

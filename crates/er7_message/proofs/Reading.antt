@@ -38,9 +38,9 @@ room-front h e = record { room = λ i a b. h .room i a (omega arith) }
 
 -- ---- nothing is read
 
-pub reading-start : (s : Separators) (t : Text) (segs cells : List ℕ) → 257 * 8 ≤ length segs → LeafRoom cells (length t) → Reading s t segs cells 0 0 (segmentLines [] t)
+pub reading-start : (s : Separators) (t : Text) (segs cells : List ℕ) → LeafRoom cells (length t) → Reading s t segs cells 0 0 (segmentLines [] t)
 unfolding faultBy segmentsFrom names listOf
-reading-start s t segs cells h k = record {
+reading-start s t segs cells h = record {
   many = omega arith;
   few = omega arith;
   none-yet = λ _. refl;
@@ -53,8 +53,7 @@ reading-start s t segs cells h k = record {
   all = λ x. absurd (omega (arith, x));
   up = λ j x. absurd (omega arith);
   inside = λ j x. absurd (omega arith);
-  segment-room = h;
-  leaf-room = k;
+  leaf-room = h;
 }
 
 -- ---- one line more
@@ -151,22 +150,21 @@ module _ {s : Separators} {t l : Text} {segs cells segs′ cells′ : List ℕ} 
         (λ y. f .filled .within i y x);
   }
 
-  pub reading-more : r ≤ 4096 → r ≤ length t → eqb k 0 || isNamed s l ≡ true → 257 * 8 ≤ length segs′ → LeafRoom cells′ (length t) → Reading s t segs′ cells′ (k + 1) r ls
-  reading-more m a e h h′ = record {
+  pub reading-more : r ≤ 4096 → r ≤ length t → eqb k 0 || isNamed s l ≡ true → LeafRoom cells′ (length t) → Reading s t segs′ cells′ (k + 1) r ls
+  reading-more m a e h = record {
     many = omega (arith, f .few);
     few = m;
     none-yet = λ q. absurd (omega arith);
     fault = go .fault ∙ fault-on s k n l ls e (f .few) (f .filled .count) m;
     read = go .read ∙ rw (segment-here, segments-more) (sym (append-snoc (segmentsFrom (λ i. false) segs cells t 0 k) (segmentAt (λ i. false) segs′ cells′ t k) (segments s (names segs′ 0 (k + 1)) ls)));
     numbered = numbered-more;
-    slots = slots-more h′ m a;
+    slots = slots-more h m a;
     placed = placed-more;
     none-before = λ _. dite (ℕ-discrete k 0) (λ q. rw q at (f .begins) ∙ go .none-yet q) (λ ne. firsts 0 (omega arith) ∙ go .none-before (omega arith));
     all = λ _. f .ends;
     up = λ j x. dite (ℕ-discrete j k) (λ q. rw (q, f .begins, f .ends) low) (λ ne. rw (firsts j (omega arith), nexts j (omega arith)) (go .up j (omega arith)));
     inside = λ j x. dite (ℕ-discrete j k) (λ q. rw (q, f .ends) (omega arith)) (λ ne. rw (nexts j (omega arith)) (omega (arith, go .inside j (omega arith), low)));
-    segment-room = h;
-    leaf-room = h′;
+    leaf-room = h;
   }
 
 -- ---- a line that is refused
@@ -203,7 +201,7 @@ reading-all {s} {t} {segs} {cells} {k} {n} go h last = record {
     segments = sym (go .read ∙ append-nil (segmentsFrom (λ i. false) segs cells t 0 k));
     good = go .slots;
     placed = go .placed;
-    segmented = record { rows = omega (arith, go .many, go .segment-room); none-before = go .none-before h; order = order go; all = go .all h };
+    segmented = record { rows = omega (arith, go .many); none-before = go .none-before h; order = order go; all = go .all h };
     at-most-256 = go .many;
     at-most-4096 = go .few;
   };
@@ -222,12 +220,12 @@ module _ {s : Separators} {t : Text} {segs cells : List ℕ} {k n i e : ℕ} (go
         let ls = line-some g in
         refused TooMany (go .fault ∙ ap (segmentsFault s k n) (ls .1) ∙ fault-too-many s k n (line t i e) (ls .0) q (w .too-many h)) m segs″ cells″
 
-    module _ (h : r ≤ 4096) (long : 257 * 8 ≤ length segs′) (long′ : LeafRoom cells′ (length t)) where
+    module _ (h : r ≤ 4096) (room : LeafRoom cells′ (length t)) where
       pub line-on : e < length t → Reading s t segs′ cells′ (k + 1) r (segmentLines [] (drop (e + 1) t))
-      line-on x = reading-more (rw (line-next g x) at go) (w .fitted h) h (omega (arith, w .few h, g .high)) q long long′
+      line-on x = reading-more (rw (line-next g x) at go) (w .fitted h) h (omega (arith, w .few h, g .high)) q room
 
       pub line-done : e ≡ length t → (last : Bool) → ParsedAs t (faultBy s t) (messageBy s last t) segs′ cells′ (Read (record { separators = s; segments = k + 1; leaves = r; «last_cr» = last }))
-      line-done x last = reading-all (reading-more (rw (line-last g x) at go) (w .fitted h) h (omega (arith, w .few h, g .high)) q long long′) (omega arith) last
+      line-done x last = reading-all (reading-more (rw (line-last g x) at go) (w .fitted h) h (omega (arith, w .few h, g .high)) q room) (omega arith) last
 
 -- a line behind the header is judged by its name
 pub judged : (k : ℕ) → 1 ≤ k → (b : Bool) {c d : Bool} → c ≡ b → c ≡ d → eqb k 0 || b ≡ d
@@ -235,13 +233,13 @@ judged k h b e f = rw (ne-eqb k 0 (λ q. absurd (omega arith))) (sym e ∙ f)
 
 -- ---- the header, which is the first line
 module _ {s : Separators} {t : Text} {segs cells segs′ cells′ : List ℕ} {e r : ℕ} (g : LineEnd t 0 e) (w : SegmentRead s t (line t 0 e) e 0 0 segs cells segs′ cells′ r)
-    (room : 257 * 8 ≤ length segs) (room′ : LeafRoom cells (length t)) where
+    (room : LeafRoom cells (length t)) where
   pub header-too-many : 4096 < r → (m : Message) (segs″ cells″ : List ℕ) → ParsedAs t (faultBy s t) m segs″ cells″ (Refused TooMany)
-  header-too-many h = line-too-many (reading-start s t segs cells room room′) g refl w h
+  header-too-many h = line-too-many (reading-start s t segs cells room) g refl w h
 
-  module _ (h : r ≤ 4096) (long : 257 * 8 ≤ length segs′) (long′ : LeafRoom cells′ (length t)) where
+  module _ (h : r ≤ 4096) (room′ : LeafRoom cells′ (length t)) where
     pub header-on : e < length t → Reading s t segs′ cells′ 1 r (segmentLines [] (drop (e + 1) t))
-    header-on x = line-on (reading-start s t segs cells room room′) g refl w h long long′ x
+    header-on x = line-on (reading-start s t segs cells room) g refl w h room′ x
 
     pub header-done : e ≡ length t → (last : Bool) → ParsedAs t (faultBy s t) (messageBy s last t) segs′ cells′ (Read (record { separators = s; segments = 1; leaves = r; «last_cr» = last }))
-    header-done x last = line-done (reading-start s t segs cells room room′) g refl w h long long′ x last
+    header-done x last = line-done (reading-start s t segs cells room) g refl w h room′ x last

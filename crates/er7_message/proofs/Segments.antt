@@ -11,11 +11,11 @@ use borrow.Author.Tests.{le-leb, lt-ltb, ne-eqb}
 use lib.Dec.{eqb, leb}
 use lib.ListN.{length, take, drop, getD, drop-of-length-le, length-take, length-drop}
 use lib.Seq.{drop-drop, drop-cons, getD-take, slice-cons}
-use Rattle.text.specs.Text.{Text, bytes, part}
+use Rattle.text.specs.Text.{Text, part}
 use Rattle.er7.specs.declared.message.Place.{Place}
 use Rattle.er7.specs.declared.separators.Separators.{Separators}
-use Rattle.message_model.specs.Message.{leaf, next, leaves, leavesBehind, atField, leavesOf, isHeader, separatorsOf, isNamed, count}
-use Rattle.message_model.proofs.Faultless.{header-line, named-line}
+use Rattle.message_model.specs.Message.{leaf, next, leaves, leavesBehind, atField, leavesOf, separatorsOf, isNamed, count}
+use Rattle.message_model.proofs.Faultless.{named-line}
 use Rattle.er7_table.specs.Table.{cell, listOf, placeAt, leafAt, leavesFrom, Within}
 use Rattle.er7_table.specs.Filling.{LeafPut, SegmentPut, Filled, LeavesRead}
 use Rattle.er7_table.proofs.Laws.{part-is, leaf-kept, place-kept}
@@ -149,7 +149,7 @@ module _ (s : Separators) (t : Text) (i e k n : ℕ) (segs cells : List ℕ) whe
 
 -- ---- the header
 
-module _ (s : Separators) (t : Text) (e : ℕ) (long : 8 ≤ e) (inside : e ≤ length t) (header : isHeader (line t 0 e) ≡ true) (named : s ≡ separatorsOf (line t 0 e)) where
+module _ (s : Separators) (t : Text) (e : ℕ) (long : 8 ≤ e) (inside : e ≤ length t) (named : s ≡ separatorsOf (line t 0 e)) where
   line-0 : line t 0 e ≡ take e t
   line-0 = line-from t 0 e
 
@@ -231,17 +231,13 @@ module _ (s : Separators) (t : Text) (e : ℕ) (long : 8 ≤ e) (inside : e ≤ 
           within = header-within f;
         })
 
-    header-name : take 3 (line t 0 e) ≡ 77 ∷ 83 ∷ 72 ∷ []
-    unfolding bytes
-    header-name = header-line (line t 0 e) header .name
-
-    pub header-fits : r ≤ 4096 → {segs segs′ : List ℕ} → SegmentPut segs 0 0 77 83 72 1 1 r segs′ → SegmentRead s t (line t 0 e) e 0 0 segs cells segs′ cells′ r
+    pub header-fits : r ≤ 4096 → {segs segs′ : List ℕ} → SegmentPut segs 0 0 (getD t 0 0) (getD t 1 0) (getD t 2 0) 1 1 r segs′ → SegmentRead s t (line t 0 e) e 0 0 segs cells segs′ cells′ r
     unfolding names listOf count
     header-fits h {segs} {segs′} w = record {
       fitted = λ _. record {
         few = omega arith;
         filled = header-filled (g .fitted h);
-        label = w .label ∙ rw header-name;
+        label = w .label ∙ rw (line-name t 0 e inside (omega arith));
         begins = w .begins;
         ends = w .ends;
         rows = w .other;

@@ -92,5 +92,4 @@ pub record Reading (s : Separators) (t : Text) (segs cells : List ℕ) (k n : �
   pub all : 0 < k → firstLeaf segs k ≡ n
   pub up : (j : ℕ) → j < k → firstLeaf segs j ≤ firstLeaf segs (j + 1)
   pub inside : (j : ℕ) → j < k → firstLeaf segs (j + 1) ≤ n
-  pub segment-room : 257 * 8 ≤ length segs
   pub leaf-room : LeafRoom cells (length t)

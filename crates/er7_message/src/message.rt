@@ -10,12 +10,11 @@ use er7_table::table::read_leaves;
 use refusal::Refusal;
 use text::bytes::same_bytes;
 ghost use mathlib.Core.Path.{_≡_};
-ghost use mathlib.Core.Bool.{true};
 ghost use mathlib.Core.List.{[], _∷_};
 ghost use Prim.Native.Nat.{_+_, _*_, _≤_, _<_};
 ghost use lib.ListN.{length, take, drop};
 ghost use Rattle.text.specs.Text.{all, same};
-ghost use Rattle.message_model.specs.Message.{isMessageByte, endsInCR, isNameByte, isName, isNamed, isHeader, separatorsOf, count, atField, leavesBehind, segmentLines, messageFault, messageOf};
+ghost use Rattle.message_model.specs.Message.{isMessageByte, endsInCR, isNameByte, isName, isNamed, separatorsOf, count, atField, leavesBehind, segmentLines, messageFault, messageOf};
 ghost use Rattle.er7_table.specs.Table.{nameAt};
 ghost use Rattle.er7_table.specs.Filling.{LeafRoom, LeavesRead};
 ghost use Rattle.er7_message.specs.Parsed.{ParsedAs};
@@ -115,8 +114,8 @@ fn is_named(s: Separators, line: &[u8]) -> bool
 }
 
 // Whether segment k has the name a b c.
-fn has_name(segs: &[usize], k: usize, a: usize, b: usize, c: usize) -> bool
-    requires { ⌜ k * 8 + 8 ≤ length (now segs) ⌝ }
+fn has_name(segs: &[usize; 2056], k: usize, a: usize, b: usize, c: usize) -> bool
+    requires { ⌜ k * 8 + 8 ≤ 2056 ⌝ }
     ensures { λ r. ⌜ r ≡ same (nameAt (now (segs .entry)) k) (a ∷ b ∷ c ∷ []) ⌝ }
 {
     let at = k * 8;
@@ -124,8 +123,8 @@ fn has_name(segs: &[usize], k: usize, a: usize, b: usize, c: usize) -> bool
 }
 
 // The occurrence of a segment with the name a b c behind k segments: one more than that of the last of this name.
-fn occurrence(segs: &[usize], k: usize, a: usize, b: usize, c: usize) -> usize
-    requires { ⌜ (k ≤ 256) × (k * 8 ≤ length (now segs)) × Numbered (now segs) k ⌝ }
+fn occurrence(segs: &[usize; 2056], k: usize, a: usize, b: usize, c: usize) -> usize
+    requires { ⌜ (k ≤ 256) × Numbered (now segs) k ⌝ }
     ensures { λ r. ⌜ r ≡ count (a ∷ b ∷ c ∷ []) (names (now (segs .entry)) 0 k) + 1 ⌝ }
 {
     let mut j = k;
@@ -169,10 +168,10 @@ fn read_segment(
     s: Separators,
     k: usize,
     n: usize,
-    segs: &mut [usize],
+    segs: &mut [usize; 2056],
     cells: &mut [usize],
 ) -> usize
-    requires { ⌜ (i + 3 ≤ e) × (e ≤ length (now text)) × (1 ≤ k) × (k ≤ 256) × (n ≤ 4096) × (n ≤ i) × (257 * 8 ≤ length (now segs)) × LeafRoom (now cells) (length (now text)) × Numbered (now segs) k ⌝ }
+    requires { ⌜ (i + 3 ≤ e) × (e ≤ length (now text)) × (1 ≤ k) × (k ≤ 256) × (n ≤ 4096) × (n ≤ i) × LeafRoom (now cells) (length (now text)) × Numbered (now segs) k ⌝ }
     ensures { λ r. ⌜ SegmentRead s (now (text .entry)) (line (now (text .entry)) i e) e k n (now (segs .entry)) (now (cells .entry)) (now (segs .exit)) (now (cells .exit)) r ⌝ }
 {
     if k == 256 {
@@ -190,16 +189,16 @@ fn read_segment(
     m
 }
 
-// Reads the header, which ends at index e, as segment 0.
+// Reads the first line, which ends at index e and names the delimiters s, as segment 0.
 // Returns the number of leaves; 4097 if there are more than 4096.
 fn read_header(
     text: &[u8],
     e: usize,
     s: Separators,
-    segs: &mut [usize],
+    segs: &mut [usize; 2056],
     cells: &mut [usize],
 ) -> usize
-    requires { ⌜ (8 ≤ e) × (e ≤ length (now text)) × (isHeader (line (now text) 0 e) ≡ true) × (s ≡ separatorsOf (line (now text) 0 e)) × (257 * 8 ≤ length (now segs)) × LeafRoom (now cells) (length (now text)) ⌝ }
+    requires { ⌜ (8 ≤ e) × (e ≤ length (now text)) × (s ≡ separatorsOf (line (now text) 0 e)) × LeafRoom (now cells) (length (now text)) ⌝ }
     ensures { λ r. ⌜ SegmentRead s (now (text .entry)) (line (now (text .entry)) 0 e) e 0 0 (now (segs .entry)) (now (cells .entry)) (now (segs .exit)) (now (cells .exit)) r ⌝ }
 {
     put_leaf(cells, 0, at_field(1), 3, 1);
@@ -208,7 +207,10 @@ fn read_header(
     if 4096 < n {
         return 4097;
     }
-    put_segment(segs, 0, 0, 77, 83, 72, 1, 1, n);
+    let a = text[0] as usize;
+    let b = text[1] as usize;
+    let c = text[2] as usize;
+    put_segment(segs, 0, 0, a, b, c, 1, 1, n);
     n
 }
 
@@ -219,7 +221,7 @@ fn read_rest(
     s: Separators,
     last: bool,
     n0: usize,
-    segs: &mut [usize],
+    segs: &mut [usize; 2056],
     cells: &mut [usize],
 ) -> ParsedMessage
     requires { ⌜ (from ≤ length (now text)) × (n0 ≤ from) × Reading s (now text) (now segs) (now cells) 1 n0 (segmentLines [] (drop from (now text))) ⌝ }
@@ -257,10 +259,10 @@ fn read_lines(
     e: usize,
     s: Separators,
     last: bool,
-    segs: &mut [usize],
+    segs: &mut [usize; 2056],
     cells: &mut [usize],
 ) -> ParsedMessage
-    requires { ⌜ HeaderEnd s (now text) e × (257 * 8 ≤ length (now segs)) × LeafRoom (now cells) (length (now text)) ⌝ }
+    requires { ⌜ HeaderEnd s (now text) e × LeafRoom (now cells) (length (now text)) ⌝ }
     ensures { λ r. ⌜ ParsedAs (now (text .entry)) (faultBy s (now (text .entry))) (messageBy s last (now (text .entry))) (now (segs .exit)) (now (cells .exit)) r ⌝ }
 {
     let n = read_header(text, e, s, segs, cells);
@@ -279,8 +281,13 @@ fn read_lines(
 }
 
 // Reads the lines of a text; last says whether a CR ends the last one.
-fn parse_lines(text: &[u8], last: bool, segs: &mut [usize], cells: &mut [usize]) -> ParsedMessage
-    requires { ⌜ (257 * 8 ≤ length (now segs)) × LeafRoom (now cells) (length (now text)) ⌝ }
+fn parse_lines(
+    text: &[u8],
+    last: bool,
+    segs: &mut [usize; 2056],
+    cells: &mut [usize],
+) -> ParsedMessage
+    requires { ⌜ LeafRoom (now cells) (length (now text)) ⌝ }
     ensures { λ r. ⌜ ParsedAs (now (text .entry)) (linesFault (now (text .entry))) (linesMessage last (now (text .entry))) (now (segs .exit)) (now (cells .exit)) r ⌝ }
 {
     let e = line_end(text, 0);
@@ -292,8 +299,8 @@ fn parse_lines(text: &[u8], last: bool, segs: &mut [usize], cells: &mut [usize])
 }
 
 // Reads a message into the two tables, or says what refuses it.
-pub fn parse(text: &[u8], segs: &mut [usize], cells: &mut [usize]) -> ParsedMessage
-    requires { ⌜ (257 * 8 ≤ length (now segs)) × LeafRoom (now cells) (length (now text)) ⌝ }
+pub fn parse(text: &[u8], segs: &mut [usize; 2056], cells: &mut [usize]) -> ParsedMessage
+    requires { ⌜ LeafRoom (now cells) (length (now text)) ⌝ }
     ensures { λ r. ⌜ ParsedAs (now (text .entry)) (messageFault (now (text .entry))) (messageOf (now (text .entry))) (now (segs .exit)) (now (cells .exit)) r ⌝ }
 {
     if 32768 < text.len() {

@@ -3,13 +3,12 @@ use mathlib.Core.Path.{_≡_, refl, sym, ap, _∙_}
 use mathlib.Core.List.{[], _∷_, _++_}
 use mathlib.Core.Option.{Option, none, some, Option·map}
 use Prim.Native.Nat.{ℕ, _+_, _-_, _≤_, _<_}
-use native.Mathlib.Nat.{zero-add}
 use native.Mathlib.Omega.{arith}
 use borrow.Author.Tests.{eq-eqb, ne-eqb}
 use lib.ListN.{length, take, drop, getD, length-replicate, length-take, length-drop, drop-of-length-le}
 use Rattle.text.specs.declared.bytes.Class.the-variants.{Blank, NotBlank}
 use Rattle.text.specs.declared.decimal.Number.the-variants.{At, Refused}
-use Rattle.text.specs.Text.{Text, bytes, isIn, isBlank, rest, part, RunEnd, Wrote}
+use Rattle.text.specs.Text.{Text, bytes, isIn, isBlank, rest, part, RunEnd}
 use Rattle.text.specs.Number.{eightBytes, takeNumber, asTaken, TakenAt}
 use Rattle.text.proofs.Laws.{zero-or}
 use Rattle.text.proofs.Runs.{drop-step}
@@ -18,13 +17,12 @@ use Rattle.er7_redact.specs.declared.action.Count.{Count}
 use Rattle.er7_redact.specs.declared.action.Count.the-variants.{Of, BadCount}
 use Rattle.er7_redact.specs.declared.action.Verb.{Verb}
 use Rattle.pseudonym.specs.Pseudonym as P
-use Rattle.er7_redact.specs.declared.action.Applied.{Applied}
 use Rattle.er7_redact.specs.declared.action.Applied.the-variants.{Written, Nothing}
 use Rattle.er7_redact.specs.declared.action.Action.{Action as HeldAction}
 use Rattle.er7_redact.specs.declared.action.Action.the-variants as Held
 use Rattle.er7_redact.specs.declared.action.ParsedAction.{ParsedAction}
 use Rattle.er7_redact.specs.declared.action.ParsedAction.the-variants.{Parsed, BadAction}
-use Rattle.er7_redact.specs.Action.{Action, apply, asAction, ActionHeld, replacement, name, argument, argumentAt, verb, readAction, withoutPlus, whole, readCount, readMask, readReplace, readArgument, bare, heldAs, heldAction, answer, applied, AppliedIs, room}
+use Rattle.er7_redact.specs.Action.{Action, apply, asAction, ActionHeld, replacement, name, argument, argumentAt, verb, readAction, withoutPlus, whole, readCount, readMask, readReplace, readArgument, bare, heldAs, heldAction, answer, written, room}
 use Rattle.er7_redact.specs.Inner.{heldBare, heldCount, heldCounted, CountFrom}
 
 -- ---- counts
@@ -151,13 +149,29 @@ replacement-length t i n h l = rw (replacement-part t i n h) (simp (length-take,
 
 -- ---- applying
 
-pub applied-nothing : {o : Option Text} (d : Text) → o ≡ none → AppliedIs o d d Nothing
-unfolding answer applied
-applied-nothing d e = record { result = rw e; buffer = rw e }
+pub room-written : (o : Option Text) → room o ≡ length (written o)
+unfolding room written
+room-written none = refl
+room-written (some w) = refl
 
-pub applied-text : {o : Option Text} {d d′ w : Text} {r : ℕ} → o ≡ some w → Wrote d 0 w d′ r → AppliedIs o d d′ (Written r)
-unfolding answer applied
-applied-text {o} {d} {d′} {w} {r} e g = record { result = rw (e, g .end, zero-add); buffer = rw (e, g .text) }
+-- what an answer says
+pub answered-nothing : (o : Option Text) → answer o ≡ Nothing → o ≡ none
+unfolding answer
+answered-nothing none e = refl
+answered-nothing (some w) e = let z : _≡_ {A = ℕ} 0 1 = cc in absurd (omega arith)
+
+pub answered-text : (o : Option Text) {n : ℕ} → answer o ≡ Written n → o ≡ some (written o)
+unfolding answer written
+answered-text none e = let z : _≡_ {A = ℕ} 0 1 = cc in absurd (omega arith)
+answered-text (some w) e = refl
+
+pub answered-room : (o : Option Text) {n : ℕ} → answer o ≡ Written n → n ≡ room o
+unfolding answer room
+answered-room none e = let z : _≡_ {A = ℕ} 0 1 = cc in absurd (omega arith)
+answered-room (some w) {n} e = let q : length w ≡ n = cc in sym q
+
+pub answered-length : (o : Option Text) {n : ℕ} → answer o ≡ Written n → n ≡ length (written o)
+answered-length o e = answered-room o e ∙ room-written o
 
 -- a text that is written takes no more room than the policy's text, the value and 16 bytes together
 pub room-most : (key : ℕ) (t : Text) (h : HeldAction) (v : Text) → ActionHeld t h → room (apply key (asAction t h) v) ≤ length t + length v + 16
@@ -172,8 +186,3 @@ room-most key t (Held.Mask c) v g = simp length-replicate (omega arith)
 room-most key t (Held.First n) v g = simp length-take (omega arith)
 room-most key t (Held.Last n) v g = simp length-drop (omega arith)
 room-most key t Held.Pseudonym v g = unfold P.pseudonym in omega (arith, hexadecimal-length (P.fold P.OFFSET (eightBytes key ++ v)))
-
-pub written-room : (o : Option Text) {d d′ : Text} {r : Applied} {n : ℕ} → AppliedIs o d d′ r → r ≡ Written n → n ≡ room o
-unfolding answer room
-written-room none g e = let z : _≡_ {A = ℕ} 0 1 = cc in absurd (omega arith)
-written-room (some w) {n = n} g e = let q : length w ≡ n = cc in sym q

@@ -1,12 +1,11 @@
 -- action.rs: the eight actions, reading, printing and applying them. Assumes nothing: these are definitions.
-use mathlib.Core.Path.{_≡_}
 use mathlib.Core.Bool.{Bool, cond}
 use mathlib.Core.List.{[], _∷_, _++_}
 use mathlib.Core.Option.{Option, none, some, Option·map}
 use Prim.Native.Nat.{ℕ, _+_, _-_, _≤_}
 use lib.Dec.{eqb}
 use lib.ListN.{length, take, drop, replicate}
-use Rattle.text.specs.Text.{Text, bytes, isBlank, notBlank, isWord, run, rest, part, put}
+use Rattle.text.specs.Text.{Text, bytes, isBlank, notBlank, isWord, run, rest, part}
 use Rattle.text.specs.Number.{decimal, Taken, taken, refused, takeNumber}
 use Rattle.pseudonym.specs.Pseudonym as P
 use Rattle.er7_redact.specs.declared.action.Verb.{Verb}
@@ -180,20 +179,16 @@ heldAction i n (some a) = Parsed (heldAs i n a)
 unfoldable pub argumentAt : Text → ℕ
 argumentAt s = length s - length (argument s)
 
--- what apply answers, and what it leaves in the buffer d: the text at its front, or nothing new
+-- the enum for the text that an action writes
 unfoldable pub answer : Option Text → Applied
 answer none = Nothing
 answer (some w) = Written (length w)
 
-unfoldable pub applied : Text → Option Text → Text
-applied d none = d
-applied d (some w) = put d 0 w
+-- what is written of it, and the room that it takes
+unfoldable pub written : Option Text → Text
+written none = []
+written (some w) = w
 
-pub record AppliedIs (o : Option Text) (d d′ : Text) (r : Applied) : Type 0 where
-  pub result : r ≡ answer o
-  pub buffer : d′ ≡ applied d o
-
--- the room that the text takes
 unfoldable pub room : Option Text → ℕ
 room none = 0
 room (some w) = length w

@@ -11,10 +11,10 @@ use text::decimal::decimal_at;
 use text::decimal::decimal_len;
 use text::decimal::number_at;
 ghost use mathlib.Core.Path.{_≡_};
-ghost use Prim.Native.Nat.{ℕ, _+_, _-_, _^_, _≤_, _<_};
+ghost use Prim.Native.Nat.{ℕ, _+_, _-_, _^_, _≤_, _<_, min};
 ghost use lib.ListN.{length, take, drop};
 ghost use Rattle.text.specs.Text.{Text, Wrote};
-ghost use Rattle.er7_redact.specs.Action.{verbWithArgument, verb, readCount, readMask, readArgument, readAction, printAction, replacement, asAction, ActionHeld, heldAction, argument, argumentAt, room, AppliedIs, isKeep, isNullAction};
+ghost use Rattle.er7_redact.specs.Action.{verbWithArgument, verb, readCount, readMask, readArgument, readAction, printAction, replacement, asAction, ActionHeld, heldAction, argument, argumentAt, answer, written, room, isKeep, isNullAction};
 ghost use Rattle.er7_redact.specs.Inner.{CountFrom, heldBare, heldCounted, heldCount};
 ghost use Rattle.er7_redact.specs.Action as Spec;
 
@@ -54,7 +54,7 @@ pub enum Count {
     BadCount,
 }
 
-// The length of the text that was written in a value's place.
+// The length of the text that is written in a value's place, if one is.
 pub enum Applied {
     Written(usize),
     Nothing,
@@ -302,49 +302,70 @@ pub fn printed_len(a: Action, text: &[u8]) -> usize
     }
 }
 
-// Writes the first n bytes of value, or all if there are no more, to the front of out, and returns their number.
-fn keep_first(value: &[u8], n: u64, out: &mut [u8]) -> usize
-    requires { ⌜ length (take n (now value)) ≤ length (now out) ⌝ }
-    ensures { λ r. ⌜ Wrote (now (out .entry)) 0 (take n (now (value .entry))) (now (out .exit)) r ⌝ }
+// Writes the first n bytes of value, or all if there are no more, to out from index at on, and returns the index behind them.
+fn keep_first(value: &[u8], n: u64, out: &mut [u8], at: usize) -> usize
+    requires { ⌜ at + length (take n (now value)) ≤ length (now out) ⌝ }
+    ensures { λ r. ⌜ Wrote (now (out .entry)) at (take n (now (value .entry))) (now (out .exit)) r ⌝ }
 {
     if n < value.len() as u64 {
         let end = n as usize;
-        return copy_at(out, 0, &value[0..end]);
+        return copy_at(out, at, &value[0..end]);
     }
-    copy_at(out, 0, value)
+    copy_at(out, at, value)
 }
 
-// Writes the last n bytes of value, or all if there are no more, to the front of out, and returns their number.
-fn keep_last(value: &[u8], n: u64, out: &mut [u8]) -> usize
-    requires { ⌜ length (drop (length (now value) - n) (now value)) ≤ length (now out) ⌝ }
-    ensures { λ r. ⌜ Wrote (now (out .entry)) 0 (drop (length (now (value .entry)) - n) (now (value .entry))) (now (out .exit)) r ⌝ }
+// Writes the last n bytes of value, or all if there are no more, to out from index at on, and returns the index behind them.
+fn keep_last(value: &[u8], n: u64, out: &mut [u8], at: usize) -> usize
+    requires { ⌜ at + length (drop (length (now value) - n) (now value)) ≤ length (now out) ⌝ }
+    ensures { λ r. ⌜ Wrote (now (out .entry)) at (drop (length (now (value .entry)) - n) (now (value .entry))) (now (out .exit)) r ⌝ }
 {
     if n < value.len() as u64 {
         let start = value.len() - n as usize;
-        return copy_at(out, 0, &value[start..]);
+        return copy_at(out, at, &value[start..]);
     }
-    copy_at(out, 0, value)
+    copy_at(out, at, value)
 }
 
-// Writes the text that the action a puts in the place of value, under key, to the front of out.
-pub fn apply(a: Action, text: &[u8], key: u64, value: &[u8], out: &mut [u8]) -> Applied
-    requires { ⌜ ActionHeld (now text) a × (room (Spec.apply key (asAction (now text) a) (now value)) ≤ length (now out)) ⌝ }
-    ensures { λ r. ⌜ AppliedIs (Spec.apply key (asAction (now (text .entry)) a) (now (value .entry))) (now (out .entry)) (now (out .exit)) r ⌝ }
+// Writes the text that the action a, whose replacement stands in text, puts in the place of value, under key, to out from index at on,
+// and returns the index behind it; nothing is written for `keep` and `null`.
+pub fn apply(a: Action, text: &[u8], key: u64, value: &[u8], out: &mut [u8], at: usize) -> usize
+    requires { ⌜ ActionHeld (now text) a × (at + room (Spec.apply key (asAction (now text) a) (now value)) ≤ length (now out)) ⌝ }
+    ensures { λ r. ⌜ Wrote (now (out .entry)) at (written (Spec.apply key (asAction (now (text .entry)) a) (now (value .entry)))) (now (out .exit)) r ⌝ }
+{
+    match a {
+        Action::Keep => at,
+        Action::Clear => at,
+        Action::Null => at,
+        Action::Replace { start, len } => put_replacement(text, start, len, out, at),
+        Action::Mask(c) => fill_at(out, at, value.len(), c),
+        Action::First(n) => keep_first(value, n, out, at),
+        Action::Last(n) => keep_last(value, n, out, at),
+        Action::Pseudonym => pseudonym(key, value, out, at),
+    }
+}
+
+// How many of len bytes are kept where n may be.
+fn kept_len(len: usize, n: u64) -> usize
+    ensures { λ r. ⌜ r ≡ min n len ⌝ }
+{
+    if n < len as u64 {
+        return n as usize;
+    }
+    len
+}
+
+// The length of what the action a writes in the place of value, if it writes.
+pub fn applied_len(a: Action, value: &[u8]) -> Applied
+    ensures { λ r. ⌜ ((t : Text) (key : ℕ) → ActionHeld t a → r ≡ answer (Spec.apply key (asAction t a) (now (value .entry)))) ⌝ }
 {
     match a {
         Action::Keep => Applied::Nothing,
         Action::Clear => Applied::Written(0),
         Action::Null => Applied::Nothing,
-        Action::Replace { start, len } => Applied::Written(put_replacement(
-            text,
-            start,
-            len,
-            out,
-            0,
-        )),
-        Action::Mask(c) => Applied::Written(fill_at(out, 0, value.len(), c)),
-        Action::First(n) => Applied::Written(keep_first(value, n, out)),
-        Action::Last(n) => Applied::Written(keep_last(value, n, out)),
-        Action::Pseudonym => Applied::Written(pseudonym(key, value, out)),
+        Action::Replace { start: _, len } => Applied::Written(replacement_len(len)),
+        Action::Mask(_) => Applied::Written(value.len()),
+        Action::First(n) => Applied::Written(kept_len(value.len(), n)),
+        Action::Last(n) => Applied::Written(kept_len(value.len(), n)),
+        Action::Pseudonym => Applied::Written(16),
     }
 }

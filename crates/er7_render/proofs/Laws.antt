@@ -15,9 +15,9 @@ use Rattle.text.proofs.Writes.{wrote-none, wrote-length, wrote-then}
 use Rattle.er7.specs.declared.message.Place.{Place}
 use Rattle.er7.specs.declared.separators.Separators.{Separators}
 use Rattle.message_model.specs.Message.{Leaf, leaf, Label, touchable, delimiter, lead, printLeaves, printSegments}
-use Rattle.er7_table.specs.Table.{cell, listOf, placeAt, textAt, leafAt, leavesFrom, Good, firstLeaf, nameAt, labelAt, segmentAt, segmentsFrom, Segmented}
+use Rattle.er7_table.specs.Table.{cell, listOf, placeAt, textAt, leafAt, leavesFrom, Good, firstLeaf, nameAt, labelAt, AllNamed, segmentAt, segmentsFrom, Segmented}
 use Rattle.er7_message.specs.declared.message.Counts.{Counts}
-use Rattle.er7_render.specs.Rendered.{rendered, AllNamed}
+use Rattle.er7_render.specs.Rendered.{rendered}
 use Rattle.er7_render.specs.Inner.{headed, ending, InStore, InTables, texts, leafText, leavesText, segmentText}
 
 -- ---- texts one behind another

@@ -2,3 +2,4 @@ pub mod Laws
 pub mod PrintBack
 pub mod Slots
 pub mod Packing
+pub mod Room

@@ -14,12 +14,12 @@ use Rattle.er7.specs.declared.separators.Separators.{Separators}
 use Rattle.message_model.specs.Message.{Message, Segment, segment, isNameByte, isName, isNamed, segments, segmentsFault, messageFault, messageOf, printSegments, printMessage, separatorsOf}
 use Rattle.message_model.proofs.Faultless.{header-line, named-line, faultless-lines, faultless, segments-are}
 use Rattle.message_model.proofs.PrintBack.{message-prints}
-use Rattle.er7_table.specs.Table.{listOf, nameAt, labelAt, segmentAt, segmentsFrom}
+use Rattle.er7_table.specs.Table.{listOf, nameAt, labelAt, BytesNamed, AllNamed, segmentAt, segmentsFrom}
 use Rattle.er7_table.proofs.Laws.{segments-in-store}
 use Rattle.er7_message.specs.declared.message.Counts.{Counts}
 use Rattle.er7_message.specs.declared.message.ParsedMessage.the-variants.{Read}
 use Rattle.er7_message.specs.Parsed.{faultOf, Standing, ParsedAs}
-use Rattle.er7_render.specs.Rendered.{rendered, BytesNamed, AllNamed}
+use Rattle.er7_render.specs.Rendered.{rendered}
 
 -- ---- the names are bytes
 

@@ -7,8 +7,7 @@ use lib.ListN.{length}
 use Rattle.text.specs.Text.{Text, part, Wrote}
 use Rattle.er7.specs.declared.separators.Separators.{Separators}
 use Rattle.message_model.specs.Message.{Label, lead}
-use Rattle.er7_table.specs.Table.{cell, placeAt, Good, firstLeaf, nameAt}
-use Rattle.er7_render.specs.Rendered.{BytesNamed}
+use Rattle.er7_table.specs.Table.{cell, placeAt, Good, firstLeaf, nameAt, BytesNamed}
 use Rattle.er7_render.specs.Stored.{TextSet, liveLen}
 
 -- a label with this header flag; what stands before a leaf depends on nothing else of its segment's label
@@ -26,7 +25,7 @@ pub record InStore (cells : List ℕ) (store : Text) (i : ℕ) : Type 0 where
 
 -- segment k has its row and the row behind it, its name is three bytes, and the texts of its leaves lie in the store
 pub record InTables (segs cells : List ℕ) (store : Text) (k : ℕ) : Type 0 where
-  pub rows : k * 8 + 16 ≤ length segs
+  pub rows : k * 8 + 16 ≤ 2056
   pub name : BytesNamed segs k
   pub order : firstLeaf segs k ≤ firstLeaf segs (k + 1)
   pub leaves : Good cells store (firstLeaf segs (k + 1)) (length store)

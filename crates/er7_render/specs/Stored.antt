@@ -3,10 +3,10 @@ use mathlib.Core.Path.{_≡_}
 use mathlib.Core.Bool.{Bool, cond}
 use mathlib.Core.List.{List}
 use mathlib.Core.Option.{none, some}
-use Prim.Native.Nat.{ℕ, zero, suc, _+_, _<_}
+use Prim.Native.Nat.{ℕ, zero, suc, _+_, _≤_, _<_}
 use lib.Dec.{eqb}
 use lib.ListN.{length}
-use Rattle.text.specs.Text.{Text, part}
+use Rattle.text.specs.Text.{Text, part, SameTo}
 use Rattle.er7_table.specs.Table.{cell, placeAt, textAt, leafAt, Good}
 
 -- the text of leaf i became the n bytes of the store from index `start` on; no other leaf changed, and no place
@@ -52,3 +52,16 @@ pub record Packed (cells : List ℕ) (store : Text) (n : ℕ) (cells′ : List �
   pub place : (i : ℕ) → placeAt cells′ i ≡ placeAt cells i
   pub text : (i : ℕ) → i < n → textAt cells′ store′ i ≡ textAt cells store i
   pub leaf : (named : ℕ → Bool) (i : ℕ) → i < n → leafAt named cells′ store′ i ≡ leafAt named cells store i
+
+-- ---- room for a turn
+
+-- the n leaves are as they were, and their texts stand in the first r bytes of the store, behind which it has room for the longest message;
+-- the first `from` bytes of the buffer beside it are kept
+pub record RoomMade (n : ℕ) (cells : List ℕ) (store : Text) (used : ℕ) (bytes : Text) (from : ℕ) (cells′ : List ℕ) (store′ bytes′ : Text) (r : ℕ) : Type 0 where
+  pub good : Good cells′ store′ n r
+  pub ample : r ≤ 49152
+  pub leaf : (named : ℕ → Bool) (i : ℕ) → i < n → leafAt named cells′ store′ i ≡ leafAt named cells store i
+  pub place : (i : ℕ) → placeAt cells′ i ≡ placeAt cells i
+  pub live : (i : ℕ) → i < n → liveLen cells′ i ≡ liveLen cells i
+  pub cells-long : length cells′ ≡ length cells
+  pub beside : SameTo from bytes bytes′

@@ -2,6 +2,7 @@
 use er7::message::Place;
 use er7::separators::Separators;
 use er7_message::message::Counts;
+use er7_table::table::place_at;
 use text::bytes::byte_at;
 use text::bytes::copy_at;
 ghost use mathlib.Core.Path.{_≡_};
@@ -9,8 +10,8 @@ ghost use Prim.Native.Nat.{_+_, _-_, _*_, _≤_};
 ghost use lib.ListN.{length};
 ghost use Rattle.text.specs.Text.{Wrote};
 ghost use Rattle.message_model.specs.Message.{delimiter, lead};
-ghost use Rattle.er7_table.specs.Table.{placeAt, nameAt, Good, Segmented};
-ghost use Rattle.er7_render.specs.Rendered.{rendered, BytesNamed, AllNamed};
+ghost use Rattle.er7_table.specs.Table.{nameAt, BytesNamed, AllNamed, Good, Segmented};
+ghost use Rattle.er7_render.specs.Rendered.{rendered};
 ghost use Rattle.er7_render.specs.Inner.{headed, ending, InStore, InTables, leafText, leavesText, segmentText};
 
 // The delimiter before a leaf at p.
@@ -27,20 +28,6 @@ pub fn delimiter_of(s: Separators, p: Place) -> u8
         return s.repetition;
     }
     s.field
-}
-
-// The place of leaf i.
-pub fn place_at(cells: &[usize], i: usize) -> Place
-    requires { ⌜ i * 8 + 8 ≤ length (now cells) ⌝ }
-    ensures { λ r. ⌜ r ≡ placeAt (now (cells .entry)) i ⌝ }
-{
-    let at = i * 8;
-    Place {
-        field: cells[at + 4],
-        repetition: cells[at + 5],
-        component: cells[at + 6],
-        subcomponent: cells[at + 7],
-    }
 }
 
 // Writes what stands before a leaf at p to out from index at on: its delimiter, and nothing before MSH-1 and MSH-2. Returns the index behind it.
@@ -102,8 +89,8 @@ fn put_leaves(
 }
 
 // Writes the name of segment k to out from index at on, and returns the index behind it.
-fn put_name(segs: &[usize], k: usize, out: &mut [u8], at: usize) -> usize
-    requires { ⌜ (k * 8 + 8 ≤ length (now segs)) × BytesNamed (now segs) k × (at + 3 ≤ length (now out)) ⌝ }
+fn put_name(segs: &[usize; 2056], k: usize, out: &mut [u8], at: usize) -> usize
+    requires { ⌜ (k * 8 + 8 ≤ 2056) × BytesNamed (now segs) k × (at + 3 ≤ length (now out)) ⌝ }
     ensures { λ r. ⌜ Wrote (now (out .entry)) at (nameAt (now (segs .entry)) k) (now (out .exit)) r ⌝ }
 {
     let row = k * 8;
@@ -130,7 +117,7 @@ fn put_cr(wanted: bool, out: &mut [u8], at: usize) -> usize
 fn put_segment(
     counts: Counts,
     k: usize,
-    segs: &[usize],
+    segs: &[usize; 2056],
     cells: &[usize],
     store: &[u8],
     out: &mut [u8],
@@ -159,7 +146,7 @@ fn put_segment(
 
 // Writes the message in the tables to the front of out, and returns its length.
 pub fn render(
-    segs: &[usize],
+    segs: &[usize; 2056],
     cells: &[usize],
     store: &[u8],
     counts: Counts,

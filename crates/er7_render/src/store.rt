@@ -6,8 +6,9 @@ ghost use mathlib.Core.Bool.{cond};
 ghost use Prim.Native.Nat.{_+_, _*_, _≤_};
 ghost use lib.ListN.{length};
 ghost use lib.Dec.{eqb};
+ghost use Rattle.text.specs.Text.{SameTo};
 ghost use Rattle.er7_table.specs.Table.{Good};
-ghost use Rattle.er7_render.specs.Stored.{TextSet, Vanished, liveLen, liveSum, Packed};
+ghost use Rattle.er7_render.specs.Stored.{TextSet, Vanished, liveLen, liveSum, Packed, RoomMade};
 ghost use Rattle.er7_render.specs.Inner.{InStore, LeafPacked};
 
 // Makes the text of leaf i the len bytes of the store from index start on.
@@ -71,17 +72,46 @@ fn pack(n: usize, cells: &mut [usize], store: &[u8], spare: &mut [u8]) -> usize
 
 // Leaves in the store, of which the first used bytes hold the texts of n leaves, only the texts of those that have not vanished.
 // Returns how many bytes they are. What spare holds is lost.
-pub fn compact(
-    n: usize,
-    cells: &mut [usize],
-    store: &mut [u8],
-    spare: &mut [u8],
-    used: usize,
-) -> usize
+fn compact(n: usize, cells: &mut [usize], store: &mut [u8], spare: &mut [u8], used: usize) -> usize
     requires { ⌜ Good (now cells) (now store) n used × (liveSum (now cells) 0 n ≤ length (now store)) × (liveSum (now cells) 0 n ≤ length (now spare)) ⌝ }
     ensures { λ r. ⌜ Packed (now (cells .entry)) (now (store .entry)) n (now (cells .exit)) (now (store .exit)) r ⌝ }
 {
     let r = pack(n, cells, store, spare);
     copy_at(store, 0, &spare[0..r]);
     r
+}
+
+// Does so through bytes from index from on, whose first from bytes are kept.
+fn compact_behind(
+    n: usize,
+    cells: &mut [usize],
+    store: &mut [u8],
+    bytes: &mut [u8],
+    from: usize,
+    used: usize,
+) -> usize
+    requires { ⌜ Good (now cells) (now store) n used × (liveSum (now cells) 0 n ≤ length (now store)) × (from + liveSum (now cells) 0 n ≤ length (now bytes)) ⌝ }
+    ensures { λ r. ⌜ Packed (now (cells .entry)) (now (store .entry)) n (now (cells .exit)) (now (store .exit)) r × SameTo from (now (bytes .entry)) (now (bytes .exit)) ⌝ }
+{
+    compact(n, cells, store, &mut bytes[from..], used)
+}
+
+// Room in the store for the texts that a turn may write: where fewer than 49,152 bytes are left behind the used ones, the texts are moved together first,
+// through bytes from index from on, whose first from bytes are kept.
+// Returns how many bytes of the store are used.
+pub fn make_room(
+    n: usize,
+    cells: &mut [usize],
+    store: &mut [u8; 98304],
+    bytes: &mut [u8; 65536],
+    from: usize,
+    used: usize,
+) -> usize
+    requires { ⌜ Good (now cells) (now store) n used × (liveSum (now cells) 0 n ≤ 49152) × (from ≤ 16384) ⌝ }
+    ensures { λ r. ⌜ RoomMade n (now (cells .entry)) (now (store .entry)) used (now (bytes .entry)) from (now (cells .exit)) (now (store .exit)) (now (bytes .exit)) r ⌝ }
+{
+    if used <= 49152 {
+        return used;
+    }
+    compact_behind(n, cells, store, bytes, from, used)
 }

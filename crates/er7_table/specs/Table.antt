@@ -7,6 +7,7 @@ use Prim.Native.Nat.{ℕ, zero, suc, _+_, _-_, _*_, _≤_, _<_}
 use lib.ListN.{length, getD}
 use lib.Dec.{eqb}
 use Rattle.text.specs.Text.{Text, part}
+use Rattle.er7.specs.declared.message.Label.{Label as HeldLabel}
 use Rattle.er7.specs.declared.message.Place.{Place}
 use Rattle.message_model.specs.Message.{Leaf, leaf, Label, Segment, segment}
 
@@ -67,6 +68,20 @@ nameAt segs k = cell segs k 2 ∷ cell segs k 3 ∷ cell segs k 4 ∷ []
 unfoldable pub labelAt : List ℕ → ℕ → Label
 labelAt segs k = record { name = nameAt segs k; occurrence = cell segs k 5; header = not (eqb (cell segs k 6) 0) }
 
+-- the label that a struct stands for: its name is three bytes
+unfoldable pub asLabel : HeldLabel → Label
+asLabel g = record { name = g .a ∷ g .b ∷ g .c ∷ []; occurrence = g .occurrence; header = g .header }
+
+-- the name of segment k is three bytes
+pub record BytesNamed (segs : List ℕ) (k : ℕ) : Type 0 where
+  pub first : cell segs k 2 < 256
+  pub second : cell segs k 3 < 256
+  pub third : cell segs k 4 < 256
+
+-- so are those of m segments
+pub record AllNamed (segs : List ℕ) (m : ℕ) : Type 0 where
+  pub named : (k : ℕ) → k < m → BytesNamed segs k
+
 unfoldable pub segmentAt : (ℕ → Bool) → List ℕ → List ℕ → Text → ℕ → Segment
 segmentAt named segs cells store k =
     segment (labelAt segs k) (leavesFrom named cells store (firstLeaf segs k) (firstLeaf segs (k + 1) - firstLeaf segs k))
@@ -75,9 +90,9 @@ segmentAt named segs cells store k =
 unfoldable pub segmentsFrom : (ℕ → Bool) → List ℕ → List ℕ → Text → ℕ → ℕ → List Segment
 segmentsFrom named segs cells store k m = listOf (segmentAt named segs cells store) k m
 
--- m segments hold n leaves, each segment's behind those of the one before it
+-- m segments hold n leaves, each segment's behind those of the one before it; the table has 257 rows
 pub record Segmented (segs : List ℕ) (m n : ℕ) : Type 0 where
-  pub rows : m * 8 + 8 ≤ length segs
+  pub rows : m * 8 + 8 ≤ 2056
   pub none-before : firstLeaf segs 0 ≡ 0
   pub order : (i j : ℕ) → i ≤ j → j ≤ m → firstLeaf segs i ≤ firstLeaf segs j
   pub all : firstLeaf segs m ≡ n

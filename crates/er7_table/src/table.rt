@@ -1,6 +1,7 @@
-// The table of leaves and the table of segments, each one slice of rows of eight cells. Column 0 of a row is not used.
+// The table of leaves, a slice of rows of eight cells, and the table of segments, an array of 257 such rows. Column 0 of a row is not used.
 // A leaf: the start and the length of its text in the store, 1 if it has vanished, and the four numbers of its place.
 // A segment: its first leaf, the three bytes of its name, its occurrence, and 1 for the header. The row behind the last holds the number of leaves in the place of a first leaf.
+use er7::message::Label;
 use er7::message::Place;
 use er7::separators::Separators;
 ghost use mathlib.Core.Path.{_≡_};
@@ -8,7 +9,7 @@ ghost use mathlib.Core.List.{[]};
 ghost use Prim.Native.Nat.{_+_, _-_, _*_, _^_, _≤_, _<_};
 ghost use lib.ListN.{length, drop};
 ghost use Rattle.message_model.specs.Message as Message;
-ghost use Rattle.er7_table.specs.Table.{Within};
+ghost use Rattle.er7_table.specs.Table.{placeAt, Within, labelAt, asLabel, BytesNamed};
 ghost use Rattle.er7_table.specs.Filling.{LeafEnd, LeafPut, SegmentPut, LeafRoom, LeavesRead};
 
 // Whether b ends a leaf.
@@ -52,6 +53,35 @@ pub fn next(s: Separators, b: u8, p: Place) -> Place
         return place_of(p.field, p.repetition, p.component + 1, 1);
     }
     place_of(p.field, p.repetition, p.component, p.subcomponent + 1)
+}
+
+// The place of leaf i.
+pub fn place_at(cells: &[usize], i: usize) -> Place
+    requires { ⌜ i * 8 + 8 ≤ length (now cells) ⌝ }
+    ensures { λ r. ⌜ r ≡ placeAt (now (cells .entry)) i ⌝ }
+{
+    let at = i * 8;
+    Place {
+        field: cells[at + 4],
+        repetition: cells[at + 5],
+        component: cells[at + 6],
+        subcomponent: cells[at + 7],
+    }
+}
+
+// The label of segment k.
+pub fn label_at(segs: &[usize; 2056], k: usize) -> Label
+    requires { ⌜ BytesNamed (now segs) k × (k * 8 + 8 ≤ 2056) ⌝ }
+    ensures { λ r. ⌜ asLabel r ≡ labelAt (now (segs .entry)) k ⌝ }
+{
+    let at = k * 8;
+    Label {
+        a: segs[at + 2] as u8,
+        b: segs[at + 3] as u8,
+        c: segs[at + 4] as u8,
+        occurrence: segs[at + 5],
+        header: segs[at + 6] != 0,
+    }
 }
 
 // Where the leaf that begins at index i ends.

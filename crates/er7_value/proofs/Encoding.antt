@@ -57,7 +57,7 @@ byte-length s b none = omega arith
 
 -- ---- a value
 
-encode-length : (s : Separators) (v : Text) → length v ≤ length (encode s v)
+pub encode-length : (s : Separators) (v : Text) → length v ≤ length (encode s v)
 unfolding encode
 encode-length s [] = omega arith
 encode-length s (b ∷ v) = simp length-append (omega (arith, byte-length s b (letterOf s b), encode-length s v))

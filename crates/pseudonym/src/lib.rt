@@ -3,7 +3,7 @@ use std::num::wrapping_add_u64;
 use text::positional::eight_bytes_at;
 use text::positional::hexadecimal_at;
 ghost use mathlib.Core.Path.{_≡_};
-ghost use Prim.Native.Nat.{_*_, _%_, _^_, _≤_};
+ghost use Prim.Native.Nat.{_+_, _*_, _%_, _^_, _≤_};
 ghost use lib.ListN.{length};
 ghost use Rattle.text.specs.Text.{Wrote};
 ghost use Rattle.pseudonym.specs.Pseudonym as P;
@@ -45,14 +45,14 @@ pub fn fold(hash: u64, s: &[u8]) -> u64
     h
 }
 
-// Writes the pseudonym of value under key to the front of out, and returns its length.
-pub fn pseudonym(key: u64, value: &[u8], out: &mut [u8]) -> usize
-    requires { ⌜ 16 ≤ length (now out) ⌝ }
-    ensures { λ r. ⌜ Wrote (now (out .entry)) 0 (P.pseudonym key (now (value .entry))) (now (out .exit)) r ⌝ }
+// Writes the pseudonym of value under key to out from index at on, and returns the index behind it.
+pub fn pseudonym(key: u64, value: &[u8], out: &mut [u8], at: usize) -> usize
+    requires { ⌜ at + 16 ≤ length (now out) ⌝ }
+    ensures { λ r. ⌜ Wrote (now (out .entry)) at (P.pseudonym key (now (value .entry))) (now (out .exit)) r ⌝ }
 {
     let mut bytes = [0u8; 8];
     eight_bytes_at(&mut bytes, 0, key);
     let keyed = fold(OFFSET, &bytes);
     let hash = fold(keyed, value);
-    hexadecimal_at(out, 0, hash)
+    hexadecimal_at(out, at, hash)
 }

@@ -1,5 +1,5 @@
 -- Laws of the entry redact. Assumes nothing.
-use mathlib.Core.Path.{_≡_, refl, sym, ap, _∙_}
+use mathlib.Core.Path.{_≡_, refl, sym, ap, subst, _∙_}
 use mathlib.Core.Bool.{Bool, true, false, cond}
 use mathlib.Core.List.{List}
 use mathlib.Core.Option.{none}
@@ -10,85 +10,127 @@ use lib.Dec.{ltb}
 use lib.ListN.{length, take}
 use Rattle.text.specs.Text.{Text, part, Wrote}
 use Rattle.text.proofs.Laws.{clash}
+use Rattle.text.proofs.Writes.{wrote-length}
 use Rattle.refusal.specs.Refusal.{tooLong}
 use Rattle.refusal.specs.declared.Refusal.{Refusal}
 use Rattle.refusal.specs.declared.Refusal.the-variants.{TooLong, ReportTooLong}
 use Rattle.message_model.specs.Message.{messageOf, messageFault}
+use Rattle.message_model.proofs.Faultless.{faultless}
+use Rattle.message_model.proofs.PrintBack.{message-prints}
+use Rattle.message_model.proofs.Messages.{message-chains}
 use Rattle.policy_model.specs.Policy as Q
 use Rattle.policy_model.specs.Policy.{Policy, PolicyRead, read, readPolicy}
-use Rattle.run_model.specs.Redact.{Redacted, redact}
-use Rattle.run_model.specs.Entries.{Answer, done, refused, outcome, withoutFault, reported}
+use Rattle.run_model.specs.Redact as R
+use Rattle.run_model.specs.Redact.{redact, redactFrom, printRows}
+use Rattle.run_model.specs.Entries.{Answer, done, refused, Lent, Outcome, outcome, withPolicy, withoutFault, reported, withBuffers, isShort}
+use Rattle.run_model.proofs.Chains.{message-fields-first}
+use Rattle.run_model.proofs.Sizes.{redacted-fits}
 use Rattle.er7_table.specs.Filling.{LeafRoom}
 use Rattle.er7_message.specs.Parsed.{faultOf, ParsedAs}
 use Rattle.er7_message.specs.declared.message.Counts.{Counts}
 use Rattle.er7_message.specs.declared.message.ParsedMessage.{ParsedMessage}
-use Rattle.er7_message.specs.declared.message.ParsedMessage.the-variants.{Read, Refused}
-use Rattle.er7_render.specs.Rendered.{rendered}
+use Rattle.er7_message.specs.declared.message.ParsedMessage.the-variants as Parsed
 use Rattle.er7_render.proofs.PrintBack.{parsed-named}
 use Rattle.er7_render.proofs.Slots.{wrote-part}
-use Rattle.redact_pass.specs.declared.leaf.Counters.{Counters}
-use Rattle.redact_pass.specs.declared.leaf.Done.{Done}
-use Rattle.redact_pass.specs.declared.leaf.Done.the-variants.{Going, Stopped}
-use Rattle.redact_run.specs.Ran.{Ran, RunIs}
+use Rattle.redact_1_run.specs.declared.core.Redacted.{Redacted}
+use Rattle.redact_1_run.specs.declared.core.Redacted.the-variants as Run
+use Rattle.redact_1_run.specs.Ran.{Loaded, AnyLoaded, Left, RedactedIs}
 use Rattle.entries.specs.Handed.{lent}
-use Rattle.redact.specs.Parsed.{Parsed, Printable}
+use Rattle.entries.proofs.Outcomes as Outcomes
+use Rattle.redact.specs.declared.redact.Answer.{Answer as Given}
+use Rattle.redact.specs.declared.redact.Answer.the-variants.{Redacted as Whole, Refused}
+use Rattle.redact.specs.Answered.{Redaction, AnsweredAs}
 
--- ---- the report
+-- ---- a text that was written stands at the front
 
-module _ {key : ℕ} {P : Policy} {message : Text} {counts : Counts} {segs cells : List ℕ} {store report : Text} {c : Counters} (g : Ran key P message counts segs cells store report c) where
-  pub report-full : (a b : ℕ) → length report < c .«report_len» → refused ReportTooLong 0 ≡ reported (lent a (length report) b) (redact key P (messageOf message))
-  unfolding reported lent
-  report-full a b h = sym (rw (g .is, ← g .reported .long, lt-ltb (length report) (c .«report_len») h))
-
-  pub report-fits : (a b : ℕ) → c .«report_len» ≤ length report → done (rendered counts segs cells store) (g .rows) ≡ reported (lent a (length report) b) (redact key P (messageOf message))
-  unfolding reported lent
-  report-fits a b h = sym (rw (g .is, ← g .reported .long, le-ltb (length report) (c .«report_len») h))
-
-  pub ran-printable : Printable counts segs cells store
-  ran-printable = record { most = g .most; good = g .good }
-
-pub wrote-taken : {d d′ w : Text} {n : ℕ} → Wrote d 0 w d′ n → take n d′ ≡ w
+wrote-taken : {d d′ w : Text} {n : ℕ} → Wrote d 0 w d′ n → take n d′ ≡ w
 unfolding part
 wrote-taken {d} {d′} {w} {n} p = let e : n ≡ length w = omega (arith, p .end) in rw e (wrote-part p)
 
--- buffers keep their lengths
-pub same-reported : {a′ a ρ′ ρ b′ b : ℕ} (x : Redacted) → a′ ≡ a → ρ′ ≡ ρ → b′ ≡ b → outcome (lent a′ ρ′ b′) (reported (lent a′ ρ′ b′) x) ≡ outcome (lent a ρ b) (reported (lent a ρ b) x)
-same-reported x e f h = rw (e, f, h)
+-- ---- the message's tables
 
-pub same-refused : {a′ a ρ′ ρ b′ b : ℕ} (x : Refusal) → a′ ≡ a → ρ′ ≡ ρ → b′ ≡ b → outcome (lent a′ ρ′ b′) (refused x 0) ≡ outcome (lent a ρ b) (refused x 0)
-same-refused x e f h = rw (e, f, h)
+-- a message without fault is short
+not-long : (t : Text) → messageFault t ≡ none → length t ≤ 32768
+unfolding tooLong
+not-long t e = ltb-false 32768 (length t) (faultless t e .not-too-long)
+
+module _ {message : Text} {segs cells : List ℕ} {a : ParsedMessage} (p : ParsedAs message (messageFault message) (messageOf message) segs cells a) where
+  pub no-fault : {counts : Counts} → a ≡ Parsed.Read counts → messageFault message ≡ none
+  unfolding faultOf
+  no-fault e = sym (p .is) ∙ rw e
+
+  pub parsed-loaded : {counts : Counts} {policy : Text} → a ≡ Parsed.Read counts → length policy ≤ 32768 → Loaded message (messageOf message) policy (length message) counts segs cells
+  parsed-loaded {counts} {policy} e h =
+      let q : ParsedAs message (messageFault message) (messageOf message) segs cells (Parsed.Read counts) = rw e at p in
+      let f = no-fault e in
+      record {
+        standing = q .tables;
+        prints = message-prints message f;
+        chained = message-chains message;
+        first = message-fields-first message f;
+        named = parsed-named q;
+        policy-short = h;
+        within = omega arith;
+        most = omega (arith, not-long message f);
+      }
+
+  pub any-loaded : {counts : Counts} {policy : Text} → a ≡ Parsed.Read counts → length policy ≤ 32768 → AnyLoaded message policy (length message) counts segs cells
+  any-loaded e h = record { message = messageOf message; loaded = parsed-loaded e h }
+
+  pub message-refused : {x : Refusal} {output report : Text} → a ≡ Parsed.Refused x → (y : Answer) → AnsweredAs (withoutFault (messageFault message) y) output report (Refused x 0)
+  unfolding withoutFault faultOf
+  message-refused e y = record { out = rw (← p .is, e) }
 
 -- ---- the run's answer
 
-module _ {key : ℕ} {P : Policy} {message : Text} {counts : Counts} {segs cells : List ℕ} {store report : Text} {r : Done} (g : RunIs key P message counts segs cells store report r) where
-  pub run-going : {c : Counters} → r ≡ Going c → Ran key P message counts segs cells store report c
-  run-going e = (rw e at g) .out
+-- a message by itself
+alone : (key : ℕ) (P : Policy) (message : Text) → messageFault message ≡ none → redactFrom (length message) key P (messageOf message) ≡ redact key P (messageOf message)
+unfolding redact
+alone key P message f = ap (λ (t : Text). redactFrom (length t) key P (messageOf message)) (sym (message-prints message f))
 
-  pub run-refused : {x : Refusal} → r ≡ Stopped x → (a ρ b : ℕ) → refused x 0 ≡ reported (lent a ρ b) (redact key P (messageOf message))
-  unfolding reported
-  run-refused e a ρ b = sym (rw ((rw e at g) .out))
+module _ (key : ℕ) (P : Policy) (message : Text) (f : messageFault message ≡ none) {output output′ report′ : Text} {r : Redacted} (g : RedactedIs (redactFrom (length message) key P (messageOf message)) output output′ report′ r) where
+  pub run-refused : (b : Lent) {x : Refusal} {o ρ : Text} → r ≡ Run.Refused x → AnsweredAs (withoutFault (messageFault message) (reported b (redact key P (messageOf message)))) o ρ (Refused x 0)
+  unfolding withoutFault reported
+  run-refused b {x} e =
+      let q : RedactedIs (redactFrom (length message) key P (messageOf message)) output output′ report′ (Run.Refused x) = rw e at g in
+      record { out = rw (f, ← alone key P message f, q .out) }
 
--- ---- the message's tables
+  module _ {n k m : ℕ} (e : r ≡ Run.Redacted n k m) where
+    left : Left (redactFrom (length message) key P (messageOf message)) n k m output output′ report′
+    left = (rw e at g) .out
 
-module _ {message : Text} {segs cells : List ℕ} {a : ParsedMessage} (p : ParsedAs message (messageFault message) (messageOf message) segs cells a) where
-  pub parsed-read : {counts : Counts} → a ≡ Read counts → {policy : Text} → length policy ≤ 32768 → Parsed message policy counts segs cells
-  parsed-read {counts} e h =
-      let q = rw e at p in
-      record { no-fault = no-fault q; standing = q .tables; named = parsed-named q; policy-short = h }
-    where
-      no-fault : ParsedAs message (messageFault message) (messageOf message) segs cells (Read counts) → messageFault message ≡ none
-      no-fault q = sym (q .is) ∙ (unfold faultOf in refl)
+    pub report-full : (b : Lent) {o ρ : Text} → b .report < k → AnsweredAs (withoutFault (messageFault message) (reported b (redact key P (messageOf message)))) o ρ (Refused ReportTooLong 0)
+    unfolding withoutFault reported
+    report-full b h = record { out = rw (f, ← alone key P message f, left .is, ← left .reported .long, lt-ltb (b .report) k h) }
 
-  pub no-message-fault : {counts : Counts} → a ≡ Read counts → (x : Answer) → x ≡ withoutFault (messageFault message) x
-  unfolding withoutFault faultOf
-  no-message-fault e x = sym (rw (← p .is, e))
+    pub run-done : (b : Lent) → 49152 ≤ length output → b .report ≡ length report′ → k ≤ length report′
+        → AnsweredAs (withoutFault (messageFault message) (reported b (redact key P (messageOf message)))) output′ report′ (Whole n k m)
+    run-done b wide long fits =
+        record {
+          out = record {
+            text = left .text;
+            rows = left .rows;
+            is = is;
+            text-fits = omega (arith, left .long, short, wide, wrote-length wrote);
+            text-is = wrote-taken wrote;
+            report-fits = fits;
+            report-is = left .reported .text fits;
+            count = left .count;
+          };
+        }
+      where
+        short : length (left .text) ≤ 49152
+        short = redacted-fits key P message f (left .text) (left .rows) (sym (alone key P message f) ∙ left .is)
 
-  pub message-refused : {x : Refusal} → a ≡ Refused x → (y : Answer) → refused x 0 ≡ withoutFault (messageFault message) y
-  unfolding withoutFault faultOf
-  message-refused e y = sym (rw (← p .is, e))
+        wrote : Wrote output 0 (left .text) output′ n
+        wrote = left .fits (omega (arith, short, wide))
 
--- ---- a policy that was read is not too long
+        is : withoutFault (messageFault message) (reported b (redact key P (messageOf message))) ≡ done (left .text) (left .rows)
+        is = unfold withoutFault reported in rw (f, ← alone key P message f, left .is, ← left .reported .long, le-ltb (b .report) k (omega (arith, long, fits)))
 
+-- ---- the policy
+
+-- one that was read is not too long
 pub read-not-long : (t : Text) (p : Policy) → readPolicy t ≡ read p → length t ≤ 32768
 unfolding readPolicy tooLong
 read-not-long t p e = go (ltb 32768 (length t)) refl _ e
@@ -100,6 +142,42 @@ read-not-long t p e = go (ltb 32768 (length t)) refl _ e
     go : (b : Bool) → ltb 32768 (length t) ≡ b → (o : PolicyRead) → cond b (Q.refused TooLong 0) o ≡ read p → length t ≤ 32768
     go true q o h = clash (sym (ap is-read h))
     go false q o h = ltb-false 32768 (length t) q
+
+module _ (o : PolicyRead) (f : Policy → Answer) where
+  pub policy-refused : {x : Refusal} {n : ℕ} {output report : Text} → o ≡ Q.refused x n → AnsweredAs (withPolicy o f) output report (Refused x n)
+  policy-refused e = record { out = sym (Outcomes.policy-refused o f e) }
+
+  pub policy-read : {p : Policy} {output report : Text} {r : Given} → o ≡ read p → AnsweredAs (f p) output report r → AnsweredAs (withPolicy o f) output report r
+  policy-read {p} {output} {report} {r} e g = subst (λ (x : Answer). AnsweredAs x output report r) (Outcomes.policy-read o f p e) g
+
+-- ---- what is handed back
+
+pub lent-report : (a ρ b : ℕ) → lent a ρ b .report ≡ ρ
+unfolding lent
+lent-report a ρ b = refl
+
+-- buffers keep their lengths
+same-lent : {a′ a ρ′ ρ : ℕ} (b : ℕ) (x : Answer) → a′ ≡ a → ρ′ ≡ ρ → outcome (lent a′ ρ′ b) x ≡ outcome (lent a ρ b) x
+same-lent b x e f = rw (e, f)
+
+module _ {x : Answer} {output report : Text} {r : Given} (g : AnsweredAs x output report r) where
+  pub answered-done : {n k m : ℕ} → r ≡ Whole n k m → Redaction x n k m output report
+  answered-done e = (rw e at g) .out
+
+  answered-refused : {e : Refusal} {n : ℕ} → r ≡ Refused e n → refused e n ≡ x
+  answered-refused e = sym ((rw e at g) .out)
+
+  module _ (a ρ b : ℕ) (wide : isShort (lent a ρ b) ≡ false) (oh : length output ≡ a) (rh : length report ≡ ρ) where
+    pub handed-done : {o : Outcome} {n k m : ℕ} → r ≡ Whole n k m
+        → ((t : Text) (ρs : List R.Row) → take n output ≡ t → take k report ≡ printRows ρs → m ≡ length ρs → o ≡ outcome (lent (length output) (length report) b) (done t ρs))
+        → o ≡ outcome (lent a ρ b) (withBuffers (lent a ρ b) x)
+    handed-done e f =
+        let q = answered-done e in
+        f (q .text) (q .rows) (q .text-is) (q .report-is) (q .count) ∙ same-lent b _ oh rh ∙ Outcomes.with-wide (lent a ρ b) x wide (sym (q .is))
+
+    pub handed-refused : {o : Outcome} {y : Refusal} {n : ℕ} → r ≡ Refused y n → o ≡ outcome (lent (length output) (length report) b) (refused y n)
+        → o ≡ outcome (lent a ρ b) (withBuffers (lent a ρ b) x)
+    handed-refused e f = f ∙ same-lent b _ oh rh ∙ Outcomes.with-wide (lent a ρ b) x wide (answered-refused e)
 
 -- ---- room in the table of leaves
 

@@ -4,123 +4,79 @@ use entries::handed::finish;
 use entries::handed::is_short;
 use entries::handed::refuse;
 use er7_message::message;
-use er7_message::message::Counts;
 use er7_message::message::ParsedMessage;
-use er7_render::render::render;
 use policy::policy::Policy;
 use policy::policy::Verdict;
 use policy::policy::parse;
-use redact_pass::leaf::Counters;
-use redact_pass::leaf::Done;
-use redact_run::run::run_all;
+use redact_1_run::core::Redacted;
+use redact_1_run::core::redact_from;
 use refusal::Refusal;
 ghost use mathlib.Core.Path.{_≡_};
-ghost use Prim.Native.Nat.{ℕ, _*_, _≤_};
+ghost use Prim.Native.Nat.{ℕ, _≤_};
 ghost use lib.ListN.{length};
-ghost use Rattle.text.specs.Text.{Text};
 ghost use Rattle.message_model.specs.Message.{messageOf, messageFault};
-ghost use Rattle.policy_model.specs.Policy as Model;
+ghost use Rattle.policy_model.specs.Policy.{readPolicy};
 ghost use Rattle.policy.specs.Policy.{asPolicy, PolicyHeld};
 ghost use Rattle.run_model.specs.Redact as Redact;
-ghost use Rattle.run_model.specs.Entries.{outcome, withoutFault, reported, redactOutcome};
+ghost use Rattle.run_model.specs.Entries.{Lent, withPolicy, withoutFault, reported, redactOutcome};
 ghost use Rattle.er7_table.specs.Filling.{LeafRoom};
-ghost use Rattle.er7_table.specs.Table.{Segmented};
-ghost use Rattle.er7_render.specs.Rendered.{AllNamed};
-ghost use Rattle.redact_run.specs.Ran.{Ran};
 ghost use Rattle.entries.specs.Handed.{lent, asOutcome};
-ghost use Rattle.redact.specs.Parsed.{Parsed, Printable};
+ghost use Rattle.redact.specs.Answered.{AnsweredAs};
 
-// Hands back the text that the tables print as, and the report's rows, if they fit.
-fn hand_back(
-    counts: Counts,
-    segs: &[usize],
-    cells: &[usize],
-    store: &[u8; 147456],
-    c: Counters,
-    output: &mut [u8],
-    report: &mut [u8],
-    scratch: &mut [u8],
-) -> Handed
-    requires { ⌜ Segmented (now segs) (counts .segments) (counts .leaves) × AllNamed (now segs) (counts .segments) × Printable counts (now segs) (now cells) (now store) × (49152 ≤ length (now output)) ⌝ }
-    ensures { λ r. ⌜ ((key : ℕ) (P : Model.Policy) (message : Text) → Ran key P message counts (now (segs .entry)) (now (cells .entry)) (now (store .entry)) (now (report .entry)) c → asOutcome r (now (output .exit)) (now (report .exit)) (now (scratch .exit)) ≡ outcome (lent (length (now (output .entry))) (length (now (report .entry))) (length (now (scratch .entry)))) (reported (lent (length (now (output .entry))) (length (now (report .entry))) (length (now (scratch .entry)))) (Redact.redact key P (messageOf message)))) ⌝ }
-{
-    if report.len() < c.report_len {
-        return refuse(Refusal::ReportTooLong, 0, output, report, scratch);
-    }
-    let n = render(segs, cells, store, counts, output);
-    finish(n, c.report_len, c.rows, output, report, scratch)
+// The lengths of the text and of the report, and how many rows it has; or a refusal with its line.
+pub enum Answer {
+    Redacted {
+        text_len: usize,
+        report_len: usize,
+        rows: usize,
+    },
+    Refused(Refusal, usize),
 }
 
-// Redacts a message whose tables stand in segs and cells.
-fn redact_read(
-    counts: Counts,
-    policy: Policy,
-    text: &[u8],
-    message: &[u8],
-    key: u64,
-    segs: &[usize],
-    cells: &mut [usize],
-    output: &mut [u8],
-    report: &mut [u8],
-    scratch: &mut [u8],
-) -> Handed
-    requires { ⌜ PolicyHeld (now text) policy × Parsed (now message) (now text) counts (now segs) (now cells) × (49152 ≤ length (now output)) × (49152 ≤ length (now scratch)) ⌝ }
-    ensures { λ r. ⌜ asOutcome r (now (output .exit)) (now (report .exit)) (now (scratch .exit)) ≡ outcome (lent (length (now (output .entry))) (length (now (report .entry))) (length (now (scratch .entry)))) (reported (lent (length (now (output .entry))) (length (now (report .entry))) (length (now (scratch .entry)))) (Redact.redact key (asPolicy (now (text .entry)) policy) (messageOf (now (message .entry))))) ⌝ }
-{
-    let mut store = [0u8; 147456];
-    let mut value = [0u8; 49152];
-    let mut new = [0u8; 49152];
-    let mut bytes = [0u8; 16384];
-    let mut known = [0usize; 4096];
-    match run_all(
-        key,
-        counts,
-        policy,
-        text,
-        message,
-        segs,
-        cells,
-        &mut store,
-        report,
-        &mut value,
-        &mut new,
-        &mut bytes,
-        &mut known,
-    ) {
-        Done::Going(c) => hand_back(counts, segs, cells, &store, c, output, report, scratch),
-        Done::Stopped(refusal) => refuse(refusal, 0, output, report, scratch),
-    }
-}
-
-// Redacts a message by a policy whose text is text; segs and cells are for its tables.
+// The message as a policy leaves it, whose text is text, at the front of output, and its rows at that of report; segs and cells are for its tables.
 fn redact_in(
     message: &[u8],
     policy: Policy,
     text: &[u8],
     key: u64,
-    segs: &mut [usize],
+    segs: &mut [usize; 2056],
     cells: &mut [usize],
     output: &mut [u8],
     report: &mut [u8],
-    scratch: &mut [u8],
-) -> Handed
-    requires { ⌜ PolicyHeld (now text) policy × (length (now text) ≤ 32768) × (257 * 8 ≤ length (now segs)) × LeafRoom (now cells) (length (now message)) × (49152 ≤ length (now output)) × (49152 ≤ length (now scratch)) ⌝ }
-    ensures { λ r. ⌜ asOutcome r (now (output .exit)) (now (report .exit)) (now (scratch .exit)) ≡ outcome (lent (length (now (output .entry))) (length (now (report .entry))) (length (now (scratch .entry)))) (withoutFault (messageFault (now (message .entry))) (reported (lent (length (now (output .entry))) (length (now (report .entry))) (length (now (scratch .entry)))) (Redact.redact key (asPolicy (now (text .entry)) policy) (messageOf (now (message .entry)))))) ⌝ }
+) -> Answer
+    requires { ⌜ PolicyHeld (now text) policy × (length (now text) ≤ 32768) × LeafRoom (now cells) (length (now message)) × (49152 ≤ length (now output)) ⌝ }
+    ensures { λ r. ⌜ ((b : Lent) → b .report ≡ length (now (report .entry)) → AnsweredAs (withoutFault (messageFault (now (message .entry))) (reported b (Redact.redact key (asPolicy (now (text .entry)) policy) (messageOf (now (message .entry)))))) (now (output .exit)) (now (report .exit)) r) ⌝ }
 {
     match message::parse(message, segs, cells) {
-        ParsedMessage::Read(counts) => redact_read(
-            counts,
+        ParsedMessage::Read(counts) => match redact_from(
             policy,
             text,
-            message,
             key,
+            message,
+            counts,
+            message.len(),
             segs,
             cells,
             output,
             report,
-            scratch,
-        ),
-        ParsedMessage::Refused(refusal) => refuse(refusal, 0, output, report, scratch),
+        ) {
+            Redacted::Redacted {
+                text_len,
+                report_len,
+                rows,
+            } => {
+                if report.len() < report_len {
+                    return Answer::Refused(Refusal::ReportTooLong, 0);
+                }
+                Answer::Redacted {
+                    text_len,
+                    report_len,
+                    rows,
+                }
+            }
+            Redacted::Refused(refusal) => Answer::Refused(refusal, 0),
+        },
+        ParsedMessage::Refused(refusal) => Answer::Refused(refusal, 0),
     }
 }
 
@@ -132,10 +88,9 @@ fn redact_message(
     key: u64,
     output: &mut [u8],
     report: &mut [u8],
-    scratch: &mut [u8],
-) -> Handed
-    requires { ⌜ PolicyHeld (now text) policy × (length (now text) ≤ 32768) × (49152 ≤ length (now output)) × (49152 ≤ length (now scratch)) ⌝ }
-    ensures { λ r. ⌜ asOutcome r (now (output .exit)) (now (report .exit)) (now (scratch .exit)) ≡ outcome (lent (length (now (output .entry))) (length (now (report .entry))) (length (now (scratch .entry)))) (withoutFault (messageFault (now (message .entry))) (reported (lent (length (now (output .entry))) (length (now (report .entry))) (length (now (scratch .entry)))) (Redact.redact key (asPolicy (now (text .entry)) policy) (messageOf (now (message .entry)))))) ⌝ }
+) -> Answer
+    requires { ⌜ PolicyHeld (now text) policy × (length (now text) ≤ 32768) × (49152 ≤ length (now output)) ⌝ }
+    ensures { λ r. ⌜ ((b : Lent) → b .report ≡ length (now (report .entry)) → AnsweredAs (withoutFault (messageFault (now (message .entry))) (reported b (Redact.redact key (asPolicy (now (text .entry)) policy) (messageOf (now (message .entry)))))) (now (output .exit)) (now (report .exit)) r) ⌝ }
 {
     let mut segs = [0usize; 2056];
     if message.len() <= 1024 {
@@ -149,7 +104,6 @@ fn redact_message(
             &mut few,
             output,
             report,
-            scratch,
         );
     }
     let mut cells = [0usize; 32768];
@@ -162,11 +116,30 @@ fn redact_message(
         &mut cells,
         output,
         report,
-        scratch,
     )
 }
 
-// The message as the policy leaves it, in output, and a row for each change, in report; or a refusal. The scratch is for work.
+// The same, by the policy that a text reads as.
+fn redact_by(
+    message: &[u8],
+    policy: &[u8],
+    key: u64,
+    output: &mut [u8],
+    report: &mut [u8],
+) -> Answer
+    requires { ⌜ 49152 ≤ length (now output) ⌝ }
+    ensures { λ r. ⌜ ((b : Lent) → b .report ≡ length (now (report .entry)) → AnsweredAs (withPolicy (readPolicy (now (policy .entry))) λ P. withoutFault (messageFault (now (message .entry))) (reported b (Redact.redact key P (messageOf (now (message .entry)))))) (now (output .exit)) (now (report .exit)) r) ⌝ }
+{
+    let parsed = parse(policy);
+    let held = parsed.policy;
+    let verdict = parsed.verdict;
+    match verdict {
+        Verdict::Read => redact_message(message, held, policy, key, output, report),
+        Verdict::Refused(refusal, line) => Answer::Refused(refusal, line),
+    }
+}
+
+// The message as the policy leaves it, in output, and a row for each change, in report; or a refusal. The scratch is zeroed.
 pub fn redact(
     message: &[u8],
     policy: &[u8],
@@ -180,11 +153,12 @@ pub fn redact(
     if is_short(output.len(), scratch.len()) {
         return refuse(Refusal::ShortBuffer, 0, output, report, scratch);
     }
-    let parsed = parse(policy);
-    let held = parsed.policy;
-    let verdict = parsed.verdict;
-    match verdict {
-        Verdict::Read => redact_message(message, held, policy, key, output, report, scratch),
-        Verdict::Refused(refusal, line) => refuse(refusal, line, output, report, scratch),
+    match redact_by(message, policy, key, output, report) {
+        Answer::Redacted {
+            text_len,
+            report_len,
+            rows,
+        } => finish(text_len, report_len, rows, output, report, scratch),
+        Answer::Refused(refusal, line) => refuse(refusal, line, output, report, scratch),
     }
 }

@@ -114,6 +114,17 @@ pub record Wrote (d : Text) (at : ℕ) (s d′ : Text) (r : ℕ) : Type 0 where
   pub high : r ≤ length d
   pub text : d′ ≡ put d at s
 
+-- the first k bytes of d are kept in d′, which is as long
+pub record SameTo (k : ℕ) (d d′ : Text) : Type 0 where
+  pub long : length d′ ≡ length d
+  pub same : take k d′ ≡ take k d
+
+-- s stands in d′ from index at on; what stood in d before it is kept, and what stands behind it is free
+pub record StandsAt (d : Text) (at : ℕ) (s d′ : Text) : Type 0 where
+  pub before : SameTo at d d′
+  pub room : at + length s ≤ length d
+  pub here : part d′ at (length s) ≡ s
+
 -- d with zeros from index at on
 unfoldable pub zeroed : Text → ℕ → Text
 zeroed d at = take at d ++ replicate (length d - at) 0

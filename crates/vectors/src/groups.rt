@@ -1,114 +1,74 @@
-// The groups of cases, each with its number.
+// The groups of cases, and how many cases of each came out right.
+use super::lines::field;
 use text::bytes::same_bytes;
-ghost use Prim.Native.Nat.{_≤_};
 
-// The number of a group of entries; 23 for an unknown one.
-fn entry_group(name: &[u8]) -> usize
-    ensures { λ r. ⌜ r ≤ 23 ⌝ }
-{
-    if same_bytes(name, b"entry-redact") {
-        return 18;
-    }
-    if same_bytes(name, b"entry-print") {
-        return 19;
-    }
-    if same_bytes(name, b"entry-append") {
-        return 20;
-    }
-    if same_bytes(name, b"entry-builtin") {
-        return 21;
-    }
-    if same_bytes(name, b"entry-payload") {
-        return 22;
-    }
-    23
+// The groups' names in the order of their numbers; then 23 for a case of no group, and 24 for all cases.
+const NAMES: [u8; 205] =
+    *b"fnv\tpseudonym\tdecimal\thexadecimal\tpath\taction\tapply\tpolicy\tappend\tbuiltin\tpadded\ttimes\tdecode\tencode\tlower\tword\tleaves\trepeated\tentry-redact\tentry-print\tentry-append\tentry-builtin\tentry-payload\tunknown\tall";
+
+// Whether group k has this name.
+fn is_named(k: usize, name: &[u8]) -> bool {
+    let names = NAMES;
+    let span = field(&names, k);
+    let start = span.start;
+    let end = span.end;
+    same_bytes(&names[start..end], name)
 }
 
-// The number of a group of messages or entries.
-fn message_group(name: &[u8]) -> usize
-    ensures { λ r. ⌜ r ≤ 23 ⌝ }
-{
-    if same_bytes(name, b"word") {
-        return 15;
+// The number of the group that has this name.
+pub fn group_of(name: &[u8]) -> usize {
+    let mut k = 0;
+    while k < 23 {
+        if is_named(k, name) {
+            return k;
+        }
+        k += 1;
     }
-    if same_bytes(name, b"leaves") {
-        return 16;
-    }
-    if same_bytes(name, b"repeated") {
-        return 17;
-    }
-    entry_group(name)
+    k
 }
 
-// The number of a group of values, messages or entries.
-fn value_group(name: &[u8]) -> usize
-    ensures { λ r. ⌜ r ≤ 23 ⌝ }
-{
-    if same_bytes(name, b"decode") {
-        return 12;
-    }
-    if same_bytes(name, b"encode") {
-        return 13;
-    }
-    if same_bytes(name, b"lower") {
-        return 14;
-    }
-    message_group(name)
+fn add_one(n: u64) -> u64 {
+    if n < 1000000 { n + 1 } else { n }
 }
 
-// The number of a group of policies, values, messages or entries.
-fn policy_group(name: &[u8]) -> usize
-    ensures { λ r. ⌜ r ≤ 23 ⌝ }
-{
-    if same_bytes(name, b"policy") {
-        return 7;
+// Counts a case in the group's pair: how many came out right, and how many there were.
+pub fn count(tally: &mut [u64; 50], group: usize, right: bool) {
+    if 24 < group {
+        return;
     }
-    if same_bytes(name, b"append") {
-        return 8;
+    if right {
+        tally[group * 2] = add_one(tally[group * 2]);
     }
-    if same_bytes(name, b"builtin") {
-        return 9;
-    }
-    if same_bytes(name, b"padded") {
-        return 10;
-    }
-    if same_bytes(name, b"times") {
-        return 11;
-    }
-    value_group(name)
+    tally[group * 2 + 1] = add_one(tally[group * 2 + 1]);
 }
 
-// The number of a group that is none of numbers.
-fn action_group(name: &[u8]) -> usize
-    ensures { λ r. ⌜ r ≤ 23 ⌝ }
-{
-    if same_bytes(name, b"path") {
-        return 4;
-    }
-    if same_bytes(name, b"action") {
-        return 5;
-    }
-    if same_bytes(name, b"apply") {
-        return 6;
-    }
-    policy_group(name)
+// Writes a group's name.
+fn print_name(fd: i32, k: usize) {
+    let names = NAMES;
+    let span = field(&names, k);
+    let start = span.start;
+    let end = span.end;
+    io::write_all(fd, &names[start..end]);
 }
 
-// A group's number.
-pub fn group_of(name: &[u8]) -> usize
-    ensures { λ r. ⌜ r ≤ 23 ⌝ }
-{
-    if same_bytes(name, b"fnv") {
-        return 0;
+// Writes a group's line, if it has cases.
+fn print_group(fd: i32, k: usize, right: u64, all: u64) {
+    if all == 0 {
+        return;
     }
-    if same_bytes(name, b"pseudonym") {
-        return 1;
+    print_name(fd, k);
+    io::write_all(fd, b" ");
+    io::print_decimal(fd, right);
+    io::write_all(fd, b" of ");
+    io::print_decimal(fd, all);
+    io::write_all(fd, b"\n");
+}
+
+// Writes a line for each group that has cases, and one for all.
+pub fn print(fd: i32, tally: &[u64; 50]) {
+    let mut k = 0;
+    while k < 25 {
+        print_group(fd, k, tally[k * 2], tally[k * 2 + 1]);
+        k += 1;
     }
-    if same_bytes(name, b"decimal") {
-        return 2;
-    }
-    if same_bytes(name, b"hexadecimal") {
-        return 3;
-    }
-    action_group(name)
 }

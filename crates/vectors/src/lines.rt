@@ -1,4 +1,5 @@
 // Lines of fields parted by tabs.
+use super::parts::Page;
 use text::bytes::Class;
 use text::bytes::run_end;
 ghost use Prim.Native.Nat.{_+_, _≤_, _<_};
@@ -54,73 +55,59 @@ fn digit(b: u8) -> u8
     }
 }
 
-// A byte that was read, with the index behind it.
+// Byte k of s, 0 if it has fewer.
+pub fn byte_of(s: &[u8], k: usize) -> u8 {
+    if k < s.len() { s[k] } else { 0 }
+}
+
+// A byte that was read, with the number of bytes that it is written with.
 struct Byte {
     value: u8,
-    next: usize,
+    width: usize,
 }
 
-// The byte that the escape at index i of s stands for: `\x` and two digits, or `\` and one byte.
-fn escaped(s: &[u8], i: usize) -> Byte
-    requires { ⌜ i + 1 < length (now s) ⌝ }
-    ensures { λ r. ⌜ (i < r .next) × (r .next ≤ length (now (s .entry))) ⌝ }
+// The byte that s begins with: as itself, as `\x` and two digits, or as `\` and one byte.
+fn first(s: &[u8]) -> Byte
+    ensures { λ r. ⌜ 0 < r .width ⌝ }
 {
-    if s[i + 1] != b'x' {
-        return Byte {
-            value: unescaped(s[i + 1]),
-            next: i + 2,
-        };
+    let b = byte_of(s, 0);
+    if b != b'\\' {
+        return Byte { value: b, width: 1 };
     }
-    if s.len() - i < 4 {
+    let c = byte_of(s, 1);
+    if c != b'x' {
         return Byte {
-            value: b'x',
-            next: i + 2,
+            value: unescaped(c),
+            width: 2,
         };
     }
     Byte {
-        value: digit(s[i + 2]) * 16 + digit(s[i + 3]),
-        next: i + 4,
-    }
-}
-
-// The byte that is written at index i of s, as itself or as an escape.
-fn byte_of(s: &[u8], i: usize) -> Byte
-    requires { ⌜ i < length (now s) ⌝ }
-    ensures { λ r. ⌜ (i < r .next) × (r .next ≤ length (now (s .entry))) ⌝ }
-{
-    if s[i] == b'\\' {
-        if i + 1 < s.len() {
-            return escaped(s, i);
-        }
-    }
-    Byte {
-        value: s[i],
-        next: i + 1,
+        value: digit(byte_of(s, 2)) * 16 + digit(byte_of(s, 3)),
+        width: 4,
     }
 }
 
 // Writes s to the front of out with its escapes read, as far as it fits, and returns the length.
-pub fn unescape(s: &[u8], out: &mut [u8]) -> usize
-    ensures { λ r. ⌜ r ≤ length (now (out .exit)) ⌝ }
-{
+fn unescape(s: &[u8], out: &mut Page) -> usize {
     let mut i = 0;
     let mut n = 0;
     while i < s.len() {
-        if n == out.len() {
+        if n == 131072 {
             return n;
         }
-        let byte = byte_of(s, i);
+        let byte = first(&s[i..]);
+        if s.len() - i < byte.width {
+            return n;
+        }
         out[n] = byte.value;
         n += 1;
-        i = byte.next;
+        i += byte.width;
     }
     n
 }
 
 // Puts field k of the line, with its escapes read, at the front of out, and returns its length.
-pub fn input(line: &[u8], k: usize, out: &mut [u8]) -> usize
-    ensures { λ r. ⌜ r ≤ length (now (out .exit)) ⌝ }
-{
+pub fn input(line: &[u8], k: usize, out: &mut Page) -> usize {
     let span = field(line, k);
     let start = span.start;
     let end = span.end;

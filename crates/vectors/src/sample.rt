@@ -2,6 +2,9 @@
 // lengths of 6 output, 7 report, 8 scratch; 9 the first text, 10 the second, 11 the key or the built-in's number.
 use super::lines::field;
 use super::lines::input;
+use super::parts::Page;
+use super::parts::front;
+use super::parts::part;
 use entries::handed::Handed;
 use entries::payload::payload;
 use entries::print::append;
@@ -38,30 +41,55 @@ fn is_number(line: &[u8], k: usize, n: u64) -> bool {
     }
 }
 
-// Whether buf holds field k of the line, n bytes long, and zeros behind it.
-fn is_text(line: &[u8], k: usize, n: u64, buf: &[u8]) -> bool {
-    let mut want = [0u8; 65536];
+// The lengths of the buffers that a call is handed.
+struct Room {
+    output: usize,
+    report: usize,
+    scratch: usize,
+}
+
+// Whether the first len bytes of the page are field k of the line, n bytes long, and zeros behind it.
+fn is_text(line: &[u8], k: usize, n: u64, page: &Page, len: usize) -> bool {
+    let mut want = [0u8; 131072];
     let end = input(line, k, &mut want);
-    let len = buf.len();
-    if 65536 < len {
-        return false;
-    }
-    (n == end as u64) & (end <= len) & same_bytes(buf, &want[0..len])
+    (len <= 131072)
+        & (n == end as u64)
+        & (end <= len)
+        & same_bytes(front(page, len), front(&want, len))
 }
 
-// Whether buf holds zeros alone.
-fn is_zero(buf: &[u8]) -> bool {
-    is_text(b"", 0, 0, buf)
-}
-
-// Whether a call handed back what the line says.
-fn is_handed(line: &[u8], handed: Handed, output: &[u8], report: &[u8], scratch: &[u8]) -> bool {
+// Whether a call handed back what the line says. Field 12, which no line has, is empty.
+fn is_handed(
+    line: &[u8],
+    handed: Handed,
+    room: Room,
+    output: &Page,
+    report: &Page,
+    scratch: &Page,
+) -> bool {
     is_number(line, 1, handed.number as u64)
         & is_number(line, 2, handed.line)
         & is_number(line, 3, handed.rows)
-        & is_text(line, 4, handed.text_len, output)
-        & is_text(line, 5, handed.report_len, report)
-        & is_zero(scratch)
+        & is_text(line, 4, handed.text_len, output, room.output)
+        & is_text(line, 5, handed.report_len, report, room.report)
+        & is_text(line, 12, 0, scratch, room.scratch)
+}
+
+// The length that field k of the line states; 131,073 if that is none up to 131,072.
+fn length_of(line: &[u8], k: usize) -> usize {
+    match number_of(line, k) {
+        Number::At(n, _) => { if n <= 131072 { n as usize } else { 131073 } }
+        Number::Refused => 131073,
+    }
+}
+
+// The lengths that the line states.
+fn room_of(line: &[u8]) -> Room {
+    Room {
+        output: length_of(line, 6),
+        report: length_of(line, 7),
+        scratch: length_of(line, 8),
+    }
 }
 
 // Calls the group's entry.
@@ -83,65 +111,26 @@ fn call(
     }
 }
 
-// Whether the group's entry hands back what the line says, from these inputs and in these buffers.
-fn is_right_in(
-    group: usize,
-    line: &[u8],
-    a: &[u8],
-    b: &[u8],
-    key: u64,
-    output: &mut [u8],
-    report: &mut [u8],
-    scratch: &mut [u8],
-) -> bool {
-    let handed = call(group, a, b, key, output, report, scratch);
-    is_handed(line, handed, output, report, scratch)
-}
-
-// The length that field k of the line states; 65,537 if that is none up to 65,536.
-fn length_of(line: &[u8], k: usize) -> usize {
-    match number_of(line, k) {
-        Number::At(n, _) => { if n <= 65536 { n as usize } else { 65537 } }
-        Number::Refused => 65537,
-    }
-}
-
-// The same in buffers of the lengths that the line states, which hold garbage.
+// Whether the group's entry hands back what the line says, from these inputs and in buffers that hold garbage.
 fn is_right_with(group: usize, line: &[u8], a: &[u8], b: &[u8], key: u64) -> bool {
-    let mut output = [0xA5u8; 65536];
-    let mut report = [0xA5u8; 65536];
-    let mut scratch = [0xA5u8; 65536];
-    let o = length_of(line, 6);
-    let r = length_of(line, 7);
-    let s = length_of(line, 8);
-    if 65536 < o {
-        return false;
-    }
-    if 65536 < r {
-        return false;
-    }
-    if 65536 < s {
-        return false;
-    }
-    is_right_in(
-        group,
-        line,
-        a,
-        b,
-        key,
-        &mut output[0..o],
-        &mut report[0..r],
-        &mut scratch[0..s],
-    )
+    let mut output = [0xA5u8; 131072];
+    let mut report = [0xA5u8; 131072];
+    let mut scratch = [0xA5u8; 131072];
+    let room = room_of(line);
+    let o = part(&mut output, room.output);
+    let r = part(&mut report, room.report);
+    let s = part(&mut scratch, room.scratch);
+    let handed = call(group, a, b, key, o, r, s);
+    is_handed(line, handed, room, &output, &report, &scratch)
 }
 
 // The same with the inputs that the line states.
 fn is_right_under(group: usize, line: &[u8], key: u64) -> bool {
-    let mut a = [0u8; 8192];
-    let mut b = [0u8; 8192];
+    let mut a = [0u8; 131072];
+    let mut b = [0u8; 131072];
     let n_a = input(line, 9, &mut a);
     let n_b = input(line, 10, &mut b);
-    is_right_with(group, line, &a[0..n_a], &b[0..n_b], key)
+    is_right_with(group, line, front(&a, n_a), front(&b, n_b), key)
 }
 
 // Whether the line has 12 fields, none of them too long.

@@ -13,8 +13,8 @@ add-result c = search needs
 mul-result : tie.Need-mul-result
 mul-result c = search needs
 
-shared-slice-read-result : tie.Need-shared-slice-read-result
-shared-slice-read-result c = search needs
+element-copy-out-result : tie.Need-element-copy-out-result
+element-copy-out-result c = search needs
 
 add-result-2 : tie.Need-add-result-2
 add-result-2 c = search needs
@@ -22,8 +22,8 @@ add-result-2 c = search needs
 mul-result-2 : tie.Need-mul-result-2
 mul-result-2 c = search needs
 
-shared-slice-read-result-2 : tie.Need-shared-slice-read-result-2
-shared-slice-read-result-2 c = search needs
+element-copy-out-result-2 : tie.Need-element-copy-out-result-2
+element-copy-out-result-2 c = search needs
 
 add-result-3 : tie.Need-add-result-3
 add-result-3 c = search needs
@@ -31,8 +31,8 @@ add-result-3 c = search needs
 mul-result-3 : tie.Need-mul-result-3
 mul-result-3 c = search needs
 
-shared-slice-read-result-3 : tie.Need-shared-slice-read-result-3
-shared-slice-read-result-3 c = search needs
+element-copy-out-result-3 : tie.Need-element-copy-out-result-3
+element-copy-out-result-3 c = search needs
 
 returns : tie.Need-returns
 unfolding cell
@@ -45,11 +45,11 @@ has-name-spec =
     mul-at
     add-result
     mul-result
-    shared-slice-read-result
+    element-copy-out-result
     add-result-2
     mul-result-2
-    shared-slice-read-result-2
+    element-copy-out-result-2
     add-result-3
     mul-result-3
-    shared-slice-read-result-3
+    element-copy-out-result-3
     returns)

@@ -34,16 +34,16 @@ add-result c = search needs
 mul-result : tie.Need-mul-result Inv-loop μ-loop
 mul-result c = search needs
 
-shared-slice-read-result : tie.Need-shared-slice-read-result Inv-loop μ-loop
-shared-slice-read-result c = search needs
+element-copy-out-result : tie.Need-element-copy-out-result Inv-loop μ-loop
+element-copy-out-result c = search needs
 
 add-result-2 : tie.Need-add-result-2 Inv-loop μ-loop
 unfolding cell
-add-result-2 c = search (needs, number-most (c .before .before .before .before .before .before .pre .2) (c .before .before .before .before .loop .j - 1) (omega (arith, c .before .before .before .before .loop .inv .high)), c .before .before .before .before .loop .inv .high)
+add-result-2 c = search (needs, number-most (c .before .before .before .before .before .pre .1) (c .before .before .before .before .loop .j - 1) (omega (arith, c .before .before .before .before .loop .inv .high)), c .before .before .before .before .loop .inv .high)
 
 returns : tie.Need-returns Inv-loop μ-loop
 unfolding cell
-returns c = looking-found (c .before .before .before .before .loop .inv) (omega arith) (c .before .before .has-name .ensures) (c .before .before .before .before .before .before .pre .2) (c .before .if1 .taken)
+returns c = looking-found (c .before .before .before .before .loop .inv) (omega arith) (c .before .before .has-name .ensures) (c .before .before .before .before .before .pre .1) (c .before .if1 .taken)
 
 sub-j : tie.Need-sub-j Inv-loop μ-loop
 sub-j c = search needs
@@ -70,7 +70,7 @@ occurrence-spec =
     mul-at
     add-result
     mul-result
-    shared-slice-read-result
+    element-copy-out-result
     add-result-2
     returns
     sub-j

@@ -32,28 +32,22 @@ part-parse-lines-end : tie.Need-part-parse-lines-end
 part-parse-lines-end c = search needs
 
 parse-lines-requires : tie.Need-parse-lines-requires
-parse-lines-requires c κs = (search needs, room-front (c .before .before .before .before .before .before .before .before .before .before .before .pre .1) (simp length-take (omega arith)))
+parse-lines-requires c κs = room-front (c .before .before .before .before .before .before .before .before .before .before .pre) (simp length-take (omega arith))
 
 same-length : tie.Need-same-length
 same-length c = search needs
 
-same-length-2 : tie.Need-same-length-2
-same-length-2 c = search needs
-
 returns-3 : tie.Need-returns-3
-returns-3 c = message-ended (c .before .before .before .before .before .before .before .before .before .before .before .before .before .before .before .before .args .text .now) (omega arith) (c .before .before .before .before .before .before .before .before .before .before .before .are-message-bytes .ensures) (not-false _ (c .before .before .before .before .before .before .before .before .before .before .if2 .left)) (c .before .before .before .before .before .before .before .before .before .ends-in-cr .ensures) (c .before .before .before .before .before .before .before .before .if3 .taken) (c .before .before .before .before .parse-lines .ensures)
+returns-3 c = message-ended (c .before .before .before .before .before .before .before .before .before .before .before .before .before .args .text .now) (omega arith) (c .before .before .before .before .before .before .before .before .before .are-message-bytes .ensures) (not-false _ (c .before .before .before .before .before .before .before .before .if2 .left)) (c .before .before .before .before .before .before .before .ends-in-cr .ensures) (c .before .before .before .before .before .before .if3 .taken) (c .before .before .parse-lines .ensures)
 
 parse-lines-requires-2 : tie.Need-parse-lines-requires-2
 parse-lines-requires-2 c κs = search needs
 
-same-length-3 : tie.Need-same-length-3
-same-length-3 c = search needs
-
-same-length-4 : tie.Need-same-length-4
-same-length-4 c = search needs
+same-length-2 : tie.Need-same-length-2
+same-length-2 c = search needs
 
 returns-4 : tie.Need-returns-4
-returns-4 c = message-open _ (omega arith) (c .before .before .before .before .before .before .before .before .before .before .are-message-bytes .ensures) (not-false _ (c .before .before .before .before .before .before .before .before .before .if2 .left)) (c .before .before .before .before .before .before .before .before .ends-in-cr .ensures) (c .before .before .before .before .before .before .before .if3 .left) (c .before .before .before .before .parse-lines2 .ensures)
+returns-4 c = message-open _ (omega arith) (c .before .before .before .before .before .before .before .before .are-message-bytes .ensures) (not-false _ (c .before .before .before .before .before .before .before .if2 .left)) (c .before .before .before .before .before .before .ends-in-cr .ensures) (c .before .before .before .before .before .if3 .left) (c .before .before .parse-lines2 .ensures)
 
 pub parse-spec : {M : Type 1} → statement M
 parse-spec =
@@ -69,9 +63,7 @@ parse-spec =
     part-parse-lines-end
     parse-lines-requires
     same-length
-    same-length-2
     returns-3
     parse-lines-requires-2
-    same-length-3
-    same-length-4
+    same-length-2
     returns-4)

@@ -39,17 +39,14 @@ separators-of-requires c κs = header-long _ (c .before .before .is-header .ensu
 
 read-lines-requires : tie.Need-read-lines-requires
 unfolding line part
-read-lines-requires c κs = (header-end (c .before .before .before .before .before .before .before .line-end .ensures) (c .before .before .before .before .before .is-header .ensures) (not-false _ (c .before .before .before .before .if1 .left)) (c .before .before .separators-of .ensures), search needs, search needs)
+read-lines-requires c κs = (header-end (c .before .before .before .before .before .before .before .line-end .ensures) (c .before .before .before .before .before .is-header .ensures) (not-false _ (c .before .before .before .before .if1 .left)) (c .before .before .separators-of .ensures), search needs)
 
 same-length : tie.Need-same-length
 same-length c = search needs
 
-same-length-2 : tie.Need-same-length-2
-same-length-2 c = search needs
-
 returns-2 : tie.Need-returns-2
 unfolding line part
-returns-2 c = header-read (header-end (c .before .before .before .before .before .before .before .before .before .before .before .before .line-end .ensures) (c .before .before .before .before .before .before .before .before .before .before .is-header .ensures) (not-false _ (c .before .before .before .before .before .before .before .before .before .if1 .left)) (c .before .before .before .before .before .before .before .separators-of .ensures)) _ (c .before .before .before .before .read-lines .ensures)
+returns-2 c = header-read (header-end (c .before .before .before .before .before .before .before .before .before .before .line-end .ensures) (c .before .before .before .before .before .before .before .before .is-header .ensures) (not-false _ (c .before .before .before .before .before .before .before .if1 .left)) (c .before .before .before .before .before .separators-of .ensures)) _ (c .before .before .read-lines .ensures)
 
 pub parse-lines-spec : {M : Type 1} → statement M
 parse-lines-spec =
@@ -67,5 +64,4 @@ parse-lines-spec =
     separators-of-requires
     read-lines-requires
     same-length
-    same-length-2
     returns-2)

@@ -6,37 +6,28 @@ use Rattle.er7_message.proofs.Reading.{header-too-many, header-on, head
 use Rattle.er7_message.proofs.Reading.{room-kept}
 
 read-header-requires : tie.Need-read-header-requires
-read-header-requires c κs = (c .before .before .before .before .before .pre .0 .long, c .before .before .before .before .before .pre .0 .end .high, c .before .before .before .before .before .pre .0 .header, c .before .before .before .before .before .pre .0 .named, search needs, search needs)
+read-header-requires c κs = (c .before .before .before .before .pre .0 .long, c .before .before .before .before .pre .0 .end .high, c .before .before .before .before .pre .0 .named, search needs)
 
 same-length : tie.Need-same-length
 same-length c = search needs
 
+returns : tie.Need-returns
+returns c = header-too-many (c .before .before .before .before .before .before .before .before .pre .0 .end) (c .before .before .before .read-header .ensures) (c .before .before .before .before .before .before .before .before .pre .1) (omega arith) _ _ _
+
 same-length-2 : tie.Need-same-length-2
 same-length-2 c = search needs
 
-returns : tie.Need-returns
-returns c = header-too-many (c .before .before .before .before .before .before .before .before .before .before .before .pre .0 .end) (c .before .before .before .before .before .read-header .ensures) (c .before .before .before .before .before .before .before .before .before .before .before .pre .1) (c .before .before .before .before .before .before .before .before .before .before .before .pre .2) (omega arith) _ _ _
-
-same-length-3 : tie.Need-same-length-3
-same-length-3 c = search needs
-
-same-length-4 : tie.Need-same-length-4
-same-length-4 c = search needs
-
 returns-2 : tie.Need-returns-2
-returns-2 c = header-done (c .before .before .before .before .before .before .before .before .before .before .before .before .pre .0 .end) (c .before .before .before .before .before .before .read-header .ensures) (c .before .before .before .before .before .before .before .before .before .before .before .before .pre .1) (c .before .before .before .before .before .before .before .before .before .before .before .before .pre .2) (omega arith) (search needs) (room-kept (c .before .before .before .before .before .before .before .before .before .before .before .before .pre .2) (search needs)) (c .if2 .taken) _
+returns-2 c = header-done (c .before .before .before .before .before .before .before .before .before .pre .0 .end) (c .before .before .before .before .read-header .ensures) (c .before .before .before .before .before .before .before .before .before .pre .1) (omega arith) (room-kept (c .before .before .before .before .before .before .before .before .before .pre .1) (search needs)) (c .if2 .taken) _
 
 add-read-rest : tie.Need-add-read-rest
 add-read-rest c = search needs
 
 read-rest-requires : tie.Need-read-rest-requires
-read-rest-requires c κs = (omega (arith, c .before .before .before .before .before .before .before .before .before .before .before .before .before .before .pre .0 .end .high, c .before .before .if2 .left), omega (arith, c .before .before .before .before .before .before .before .before .read-header .ensures .few (omega (arith, c .before .before .before .if1 .left))), header-on (c .before .before .before .before .before .before .before .before .before .before .before .before .before .before .pre .0 .end) (c .before .before .before .before .before .before .before .before .read-header .ensures) (c .before .before .before .before .before .before .before .before .before .before .before .before .before .before .pre .1) (c .before .before .before .before .before .before .before .before .before .before .before .before .before .before .pre .2) (omega arith) (search needs) (room-kept (c .before .before .before .before .before .before .before .before .before .before .before .before .before .before .pre .2) (search needs)) (omega (arith, c .before .before .before .before .before .before .before .before .before .before .before .before .before .before .pre .0 .end .high, c .before .before .if2 .left)))
+read-rest-requires c κs = (omega (arith, c .before .before .before .before .before .before .before .before .before .before .before .pre .0 .end .high, c .before .before .if2 .left), omega (arith, c .before .before .before .before .before .before .read-header .ensures .few (omega (arith, c .before .before .before .if1 .left))), header-on (c .before .before .before .before .before .before .before .before .before .before .before .pre .0 .end) (c .before .before .before .before .before .before .read-header .ensures) (c .before .before .before .before .before .before .before .before .before .before .before .pre .1) (omega arith) (room-kept (c .before .before .before .before .before .before .before .before .before .before .before .pre .1) (search needs)) (omega (arith, c .before .before .before .before .before .before .before .before .before .before .before .pre .0 .end .high, c .before .before .if2 .left)))
 
-same-length-5 : tie.Need-same-length-5
-same-length-5 c = search needs
-
-same-length-6 : tie.Need-same-length-6
-same-length-6 c = search needs
+same-length-3 : tie.Need-same-length-3
+same-length-3 c = search needs
 
 returns-3 : tie.Need-returns-3
 returns-3 c = search needs
@@ -47,13 +38,10 @@ read-lines-spec =
     (tie.spec
     read-header-requires
     same-length
-    same-length-2
     returns
-    same-length-3
-    same-length-4
+    same-length-2
     returns-2
     add-read-rest
     read-rest-requires
-    same-length-5
-    same-length-6
+    same-length-3
     returns-3)

@@ -16,13 +16,13 @@ use Rattle.er7_message.proofs.Reading.{room-kept}
 
 abbrev Inv-loop : tie.InvT-loop
 Inv-loop text from s last n0 segs₀ cells₀ i₀ k₀ n₀ segs cells i k n =
-    (i ≤ length text) × (1 ≤ k) × Reading s text segs cells k n (segmentLines [] (drop i text)) × (length segs ≡ length segs₀) × (length cells ≡ length cells₀) × (n ≤ i)
+    (i ≤ length text) × (1 ≤ k) × Reading s text segs cells k n (segmentLines [] (drop i text)) × (length cells ≡ length cells₀) × (n ≤ i)
 
 abbrev μ-loop : tie.MeasureT-loop
 μ-loop text from s last n0 segs₀ cells₀ i₀ k₀ n₀ segs cells i k n = length text + 1 - i
 
 loop-holds : tie.Need-loop-holds Inv-loop μ-loop
-loop-holds c = (omega arith, omega arith, c .before .before .before .pre .2, refl, refl, c .before .before .before .pre .1)
+loop-holds c = (omega arith, omega arith, c .before .before .pre .2, refl, c .before .before .pre .1)
 
 line-end-requires : tie.Need-line-end-requires Inv-loop μ-loop
 line-end-requires c κs = search needs
@@ -42,39 +42,30 @@ is-named-requires c κs = search needs
 same-length : tie.Need-same-length Inv-loop μ-loop
 same-length c = search needs
 
-same-length-2 : tie.Need-same-length-2 Inv-loop μ-loop
-same-length-2 c = search needs
-
 returns : tie.Need-returns Inv-loop μ-loop
 unfolding line part
 returns c = line-bad (c .before .before .before .before .loop .inv .2) (c .before .before .before .line-end .ensures) (judged _ (c .before .before .before .before .loop .inv .1) _ (c .before .is-named .ensures) (not-true _ (c .if1 .taken))) _ _ _
 
 read-segment-requires : tie.Need-read-segment-requires Inv-loop μ-loop
 unfolding line part
-read-segment-requires c κs = (named-long (c .before .before .before .before .before .before .before .before .before .before .args .s) (c .before .before .before .before .before .before .before .before .before .before .args .text .now) (c .before .before .before .before .before .before .loop .i) _ (c .before .before .before .before .before .line-end .ensures .high) (c .before .before .before .is-named .ensures) (not-false _ (c .before .before .if1 .left)), c .before .before .before .before .before .line-end .ensures .high, c .before .before .before .before .before .before .loop .inv .1, c .before .before .before .before .before .before .loop .inv .2 .many, c .before .before .before .before .before .before .loop .inv .2 .few, c .before .before .before .before .before .before .loop .inv .5, search needs, c .before .before .before .before .before .before .loop .inv .2 .leaf-room, c .before .before .before .before .before .before .loop .inv .2 .numbered)
+read-segment-requires c κs = (named-long (c .before .before .before .before .before .before .before .before .before .args .s) (c .before .before .before .before .before .before .before .before .before .args .text .now) (c .before .before .before .before .before .before .loop .i) _ (c .before .before .before .before .before .line-end .ensures .high) (c .before .before .before .is-named .ensures) (not-false _ (c .before .before .if1 .left)), c .before .before .before .before .before .line-end .ensures .high, c .before .before .before .before .before .before .loop .inv .1, c .before .before .before .before .before .before .loop .inv .2 .many, c .before .before .before .before .before .before .loop .inv .2 .few, c .before .before .before .before .before .before .loop .inv .4, c .before .before .before .before .before .before .loop .inv .2 .leaf-room, c .before .before .before .before .before .before .loop .inv .2 .numbered)
 
-same-length-3 : tie.Need-same-length-3 Inv-loop μ-loop
-same-length-3 c = search needs
-
-same-length-4 : tie.Need-same-length-4 Inv-loop μ-loop
-same-length-4 c = search needs
+same-length-2 : tie.Need-same-length-2 Inv-loop μ-loop
+same-length-2 c = search needs
 
 returns-2 : tie.Need-returns-2 Inv-loop μ-loop
 unfolding line part
-returns-2 c = line-too-many (c .before .before .before .before .before .before .before .before .before .before .before .before .loop .inv .2) (c .before .before .before .before .before .before .before .before .before .before .before .line-end .ensures) (judged _ (c .before .before .before .before .before .before .before .before .before .before .before .before .loop .inv .1) _ (c .before .before .before .before .before .before .before .before .before .is-named .ensures) (not-false _ (c .before .before .before .before .before .before .before .before .if1 .left))) (c .before .before .before .before .before .read-segment .ensures) (omega (arith, c .if2 .taken)) _ _ _
+returns-2 c = line-too-many (c .before .before .before .before .before .before .before .before .before .before .loop .inv .2) (c .before .before .before .before .before .before .before .before .before .line-end .ensures) (judged _ (c .before .before .before .before .before .before .before .before .before .before .loop .inv .1) _ (c .before .before .before .before .before .before .before .is-named .ensures) (not-false _ (c .before .before .before .before .before .before .if1 .left))) (c .before .before .before .read-segment .ensures) (omega (arith, c .if2 .taken)) _ _ _
 
 add-k : tie.Need-add-k Inv-loop μ-loop
 add-k c = search needs
 
-same-length-5 : tie.Need-same-length-5 Inv-loop μ-loop
-same-length-5 c = search needs
-
-same-length-6 : tie.Need-same-length-6 Inv-loop μ-loop
-same-length-6 c = search needs
+same-length-3 : tie.Need-same-length-3 Inv-loop μ-loop
+same-length-3 c = search needs
 
 returns-3 : tie.Need-returns-3 Inv-loop μ-loop
 unfolding line part
-returns-3 c = line-done (c .before .before .before .before .before .before .before .before .before .before .before .before .before .loop .inv .2) (c .before .before .before .before .before .before .before .before .before .before .before .before .line-end .ensures) (judged _ (c .before .before .before .before .before .before .before .before .before .before .before .before .before .loop .inv .1) _ (c .before .before .before .before .before .before .before .before .before .before .is-named .ensures) (not-false _ (c .before .before .before .before .before .before .before .before .before .if1 .left))) (c .before .before .before .before .before .before .read-segment .ensures) (omega (arith, c .before .if2 .left)) (search needs) (room-kept (c .before .before .before .before .before .before .before .before .before .before .before .before .before .loop .inv .2 .leaf-room) (search needs)) (c .if3 .taken) _
+returns-3 c = line-done (c .before .before .before .before .before .before .before .before .before .before .before .loop .inv .2) (c .before .before .before .before .before .before .before .before .before .before .line-end .ensures) (judged _ (c .before .before .before .before .before .before .before .before .before .before .before .loop .inv .1) _ (c .before .before .before .before .before .before .before .before .is-named .ensures) (not-false _ (c .before .before .before .before .before .before .before .if1 .left))) (c .before .before .before .before .read-segment .ensures) (omega (arith, c .before .if2 .left)) (room-kept (c .before .before .before .before .before .before .before .before .before .before .before .loop .inv .2 .leaf-room) (search needs)) (c .if3 .taken) _
 
 add-i : tie.Need-add-i Inv-loop μ-loop
 add-i c = search needs
@@ -84,7 +75,7 @@ loop-less c = search needs
 
 loop-again : tie.Need-loop-again Inv-loop μ-loop
 unfolding line part
-loop-again c = (omega (arith, c .before .before .before .before .before .before .before .before .before .before .before .before .line-end .ensures .high, c .if3 .left), omega arith, line-on (c .before .before .before .before .before .before .before .before .before .before .before .before .before .loop .inv .2) (c .before .before .before .before .before .before .before .before .before .before .before .before .line-end .ensures) (judged _ (c .before .before .before .before .before .before .before .before .before .before .before .before .before .loop .inv .1) _ (c .before .before .before .before .before .before .before .before .before .before .is-named .ensures) (not-false _ (c .before .before .before .before .before .before .before .before .before .if1 .left))) (c .before .before .before .before .before .before .read-segment .ensures) (omega (arith, c .before .if2 .left)) (search needs) (room-kept (c .before .before .before .before .before .before .before .before .before .before .before .before .before .loop .inv .2 .leaf-room) (search needs)) (omega (arith, c .before .before .before .before .before .before .before .before .before .before .before .before .line-end .ensures .high, c .if3 .left)), search needs, search needs, omega (arith, c .before .before .before .before .before .before .read-segment .ensures .few (omega (arith, c .before .if2 .left))))
+loop-again c = (omega (arith, c .before .before .before .before .before .before .before .before .before .before .line-end .ensures .high, c .if3 .left), omega arith, line-on (c .before .before .before .before .before .before .before .before .before .before .before .loop .inv .2) (c .before .before .before .before .before .before .before .before .before .before .line-end .ensures) (judged _ (c .before .before .before .before .before .before .before .before .before .before .before .loop .inv .1) _ (c .before .before .before .before .before .before .before .before .is-named .ensures) (not-false _ (c .before .before .before .before .before .before .before .if1 .left))) (c .before .before .before .before .read-segment .ensures) (omega (arith, c .before .if2 .left)) (room-kept (c .before .before .before .before .before .before .before .before .before .before .before .loop .inv .2 .leaf-room) (search needs)) (omega (arith, c .before .before .before .before .before .before .before .before .before .before .line-end .ensures .high, c .if3 .left)), search needs, omega (arith, c .before .before .before .before .read-segment .ensures .few (omega (arith, c .before .if2 .left))))
 
 pub read-rest-spec : {M : Type 1} → statement M
 read-rest-spec =
@@ -99,15 +90,12 @@ read-rest-spec =
     part-is-named-end
     is-named-requires
     same-length
-    same-length-2
     returns
     read-segment-requires
-    same-length-3
-    same-length-4
+    same-length-2
     returns-2
     add-k
-    same-length-5
-    same-length-6
+    same-length-3
     returns-3
     add-i
     loop-less

@@ -24,7 +24,7 @@ shared-slice-read-a : tie.Need-shared-slice-read-a
 shared-slice-read-a c = search needs
 
 cast-a : tie.Need-cast-a
-cast-a c = omega (arith, c .shared-slice-known2 .given (c .before .before .before .before .before .before .before .before .before .before .args .i))
+cast-a c = omega (arith, c .shared-slice-known2 .given (c .before .before .before .before .before .before .before .before .before .args .i))
 
 add-b : tie.Need-add-b
 add-b c = search needs
@@ -33,7 +33,7 @@ shared-slice-read-b : tie.Need-shared-slice-read-b
 shared-slice-read-b c = search needs
 
 cast-b : tie.Need-cast-b
-cast-b c = omega (arith, c .shared-slice-known3 .given (c .before .before .before .before .before .before .before .before .before .before .before .args .i + 1))
+cast-b c = omega (arith, c .shared-slice-known3 .given (c .before .before .before .before .before .before .before .before .before .before .args .i + 1))
 
 add-c : tie.Need-add-c
 add-c c = search needs
@@ -42,7 +42,7 @@ shared-slice-read-c : tie.Need-shared-slice-read-c
 shared-slice-read-c c = search needs
 
 cast-c : tie.Need-cast-c
-cast-c c = omega (arith, c .shared-slice-known4 .given (c .before .before .before .before .before .before .before .before .before .before .before .before .args .i + 2))
+cast-c c = omega (arith, c .shared-slice-known4 .given (c .before .before .before .before .before .before .before .before .before .before .before .args .i + 2))
 
 occurrence-requires : tie.Need-occurrence-requires
 occurrence-requires c κs = search needs
@@ -53,11 +53,8 @@ put-segment-requires c κs = search needs
 same-length-2 : tie.Need-same-length-2
 same-length-2 c = search needs
 
-same-length-3 : tie.Need-same-length-3
-same-length-3 c = search needs
-
 returns-3 : tie.Need-returns-3
-returns-3 c = segment-fits _ _ _ _ _ _ _ _ (omega arith) (c .before .before .before .before .before .before .before .before .before .before .before .before .read-behind .ensures) (omega arith) (omega arith) (omega arith) (omega arith) (c .before .before .before .before .occurrence .ensures) (c .before .before .put-segment .ensures)
+returns-3 c = segment-fits _ _ _ _ _ _ _ _ (omega arith) (c .before .before .before .before .before .before .before .before .before .before .read-behind .ensures) (omega arith) (omega arith) (omega arith) (omega arith) (c .before .before .occurrence .ensures) (c .put-segment .ensures)
 
 pub read-segment-spec : {M : Type 1} → statement M
 read-segment-spec =
@@ -79,5 +76,4 @@ read-segment-spec =
     occurrence-requires
     put-segment-requires
     same-length-2
-    same-length-3
     returns-3)

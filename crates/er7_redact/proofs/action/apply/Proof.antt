@@ -5,9 +5,8 @@ use native.Mathlib.Omega.{arith}
 use lib.ListN.{length-replicate}
 use Rattle.text.proofs.Spelling.{hexadecimal-length}
 use Rattle.text.proofs.Writes.{wrote-none}
-use Rattle.er7_redact.specs.Action.{apply, asAction, room}
+use Rattle.er7_redact.specs.Action.{apply, asAction, written, room}
 use Rattle.pseudonym.specs.Pseudonym as P
-use Rattle.er7_redact.proofs.Actions.{applied-nothing, applied-text}
 
 enum-told : tie.Need-enum-told
 enum-told c = search needs
@@ -60,51 +59,51 @@ pseudonym-requires c κs =
     omega (arith, rw (hexadecimal-length _) at p)
 
 returns : tie.Need-returns
-unfolding apply asAction
-returns c = applied-nothing _ (rw (c .enum-told .given .1))
+unfolding apply asAction written
+returns c = rw (c .enum-told .given .1) (wrote-none _ _ (omega (arith, c .before .before .before .before .before .pre .1)))
 
 returns-2 : tie.Need-returns-2
-unfolding apply asAction
-returns-2 c = applied-text (rw (c .enum-told2 .given .1)) (wrote-none _ _ (omega arith))
+unfolding apply asAction written
+returns-2 c = rw (c .enum-told2 .given .1) (wrote-none _ _ (omega (arith, c .before .before .before .before .before .pre .1)))
 
 returns-3 : tie.Need-returns-3
-unfolding apply asAction
-returns-3 c = applied-nothing _ (rw (c .enum-told3 .given .1))
+unfolding apply asAction written
+returns-3 c = rw (c .enum-told3 .given .1) (wrote-none _ _ (omega (arith, c .before .before .before .before .before .pre .1)))
 
 same-length : tie.Need-same-length
 same-length c = search needs
 
 returns-4 : tie.Need-returns-4
-unfolding apply asAction
-returns-4 c = applied-text (rw (c .before .before .before .before .before .a .given .1)) (c .before .before .put-replacement .ensures)
+unfolding apply asAction written
+returns-4 c = rw (c .before .before .before .before .before .a .given .1) (c .before .before .put-replacement .ensures)
 
 same-length-2 : tie.Need-same-length-2
 same-length-2 c = search needs
 
 returns-5 : tie.Need-returns-5
-unfolding apply asAction
-returns-5 c = applied-text (rw (c .before .before .before .before .before .a2 .given .1)) (c .before .before .fill-at .ensures)
+unfolding apply asAction written
+returns-5 c = rw (c .before .before .before .before .before .a2 .given .1) (c .before .before .fill-at .ensures)
 
 same-length-3 : tie.Need-same-length-3
 same-length-3 c = search needs
 
 returns-6 : tie.Need-returns-6
-unfolding apply asAction
-returns-6 c = applied-text (rw (c .before .before .before .before .before .a3 .given .1)) (c .before .before .keep-first .ensures)
+unfolding apply asAction written
+returns-6 c = rw (c .before .before .before .before .before .a3 .given .1) (c .before .before .keep-first .ensures)
 
 same-length-4 : tie.Need-same-length-4
 same-length-4 c = search needs
 
 returns-7 : tie.Need-returns-7
-unfolding apply asAction
-returns-7 c = applied-text (rw (c .before .before .before .before .before .a4 .given .1)) (c .before .before .keep-last .ensures)
+unfolding apply asAction written
+returns-7 c = rw (c .before .before .before .before .before .a4 .given .1) (c .before .before .keep-last .ensures)
 
 same-length-5 : tie.Need-same-length-5
 same-length-5 c = search needs
 
 returns-8 : tie.Need-returns-8
-unfolding apply asAction
-returns-8 c = applied-text (rw (c .before .before .before .before .enum-told4 .given .1)) (c .before .before .pseudonym .ensures)
+unfolding apply asAction written
+returns-8 c = rw (c .before .before .before .before .enum-told4 .given .1) (c .before .before .pseudonym .ensures)
 
 pub apply-spec : {M : Type 1} → statement M
 apply-spec =

@@ -13,12 +13,12 @@ add-a c = search needs
 mul-a : tie.Need-mul-a
 mul-a c = search needs
 
-shared-slice-read-a : tie.Need-shared-slice-read-a
-shared-slice-read-a c = search needs
+element-copy-out-a : tie.Need-element-copy-out-a
+element-copy-out-a c = search needs
 
 cast-a : tie.Need-cast-a
 unfolding cell
-cast-a c = search (needs, c .before .before .before .pre .1 .first)
+cast-a c = search (needs, c .before .before .pre .1 .first)
 
 add-b : tie.Need-add-b
 add-b c = search needs
@@ -26,12 +26,12 @@ add-b c = search needs
 mul-b : tie.Need-mul-b
 mul-b c = search needs
 
-shared-slice-read-b : tie.Need-shared-slice-read-b
-shared-slice-read-b c = search needs
+element-copy-out-b : tie.Need-element-copy-out-b
+element-copy-out-b c = search needs
 
 cast-b : tie.Need-cast-b
 unfolding cell
-cast-b c = search (needs, c .before .before .before .before .pre .1 .second)
+cast-b c = search (needs, c .before .before .before .pre .1 .second)
 
 add-c : tie.Need-add-c
 add-c c = search needs
@@ -39,12 +39,12 @@ add-c c = search needs
 mul-c : tie.Need-mul-c
 mul-c c = search needs
 
-shared-slice-read-c : tie.Need-shared-slice-read-c
-shared-slice-read-c c = search needs
+element-copy-out-c : tie.Need-element-copy-out-c
+element-copy-out-c c = search needs
 
 cast-c : tie.Need-cast-c
 unfolding cell
-cast-c c = search (needs, c .before .before .before .before .before .pre .1 .third)
+cast-c c = search (needs, c .before .before .before .before .pre .1 .third)
 
 byte-at-requires : tie.Need-byte-at-requires
 byte-at-requires c κs = search needs
@@ -69,15 +69,15 @@ put-name-spec =
     mul-row
     add-a
     mul-a
-    shared-slice-read-a
+    element-copy-out-a
     cast-a
     add-b
     mul-b
-    shared-slice-read-b
+    element-copy-out-b
     cast-b
     add-c
     mul-c
-    shared-slice-read-c
+    element-copy-out-c
     cast-c
     byte-at-requires
     byte-at-requires-2

@@ -13,8 +13,8 @@ add-first c = search needs
 mul-first : tie.Need-mul-first
 mul-first c = search needs
 
-shared-slice-read-first : tie.Need-shared-slice-read-first
-shared-slice-read-first c = search needs
+element-copy-out-first : tie.Need-element-copy-out-first
+element-copy-out-first c = search needs
 
 add-header : tie.Need-add-header
 add-header c = search needs
@@ -22,8 +22,8 @@ add-header c = search needs
 mul-header : tie.Need-mul-header
 mul-header c = search needs
 
-shared-slice-read-header : tie.Need-shared-slice-read-header
-shared-slice-read-header c = search needs
+element-copy-out-header : tie.Need-element-copy-out-header
+element-copy-out-header c = search needs
 
 add-end : tie.Need-add-end
 add-end c = search needs
@@ -31,29 +31,29 @@ add-end c = search needs
 mul-end : tie.Need-mul-end
 mul-end c = search needs
 
-shared-slice-read-end : tie.Need-shared-slice-read-end
-shared-slice-read-end c = search needs
+element-copy-out-end : tie.Need-element-copy-out-end
+element-copy-out-end c = search needs
 
 put-name-requires : tie.Need-put-name-requires
-put-name-requires c κs = (search needs, c .before .before .before .before .before .before .before .before .pre .0 .name, name-room _ _ _ _ _ _ _ _ (c .before .before .before .before .before .before .before .before .pre .1))
+put-name-requires c κs = (search needs, c .before .before .before .before .before .before .before .pre .0 .name, name-room _ _ _ _ _ _ _ _ (c .before .before .before .before .before .before .before .pre .1))
 
 put-leaves-requires : tie.Need-put-leaves-requires
 unfolding firstLeaf cell
-put-leaves-requires c κs = (rw (next-first (c .before .before .before .before .before .before .before .before .before .before .before .before .args .segs .now) (c .before .before .before .before .before .before .before .before .before .before .before .before .args .k)) (c .before .before .before .before .before .before .before .before .before .before .before .before .pre .0 .order), segment-leaves (c .before .before .before .before .before .before .before .before .before .before .before .before .pre .0) (next-first (c .before .before .before .before .before .before .before .before .before .before .before .before .args .segs .now) (c .before .before .before .before .before .before .before .before .before .before .before .before .args .k)), inside-room _ _ _ _ _ _ _ (c .before .before .before .put-name .ensures) (next-first (c .before .before .before .before .before .before .before .before .before .before .before .before .args .segs .now) (c .before .before .before .before .before .before .before .before .before .before .before .before .args .k)) (c .before .before .before .before .before .before .before .before .before .before .before .before .pre .1))
+put-leaves-requires c κs = (rw (next-first (c .before .before .before .before .before .before .before .before .before .before .before .args .segs .now) (c .before .before .before .before .before .before .before .before .before .before .before .args .k)) (c .before .before .before .before .before .before .before .before .before .before .before .pre .0 .order), segment-leaves (c .before .before .before .before .before .before .before .before .before .before .before .pre .0) (next-first (c .before .before .before .before .before .before .before .before .before .before .before .args .segs .now) (c .before .before .before .before .before .before .before .before .before .before .before .args .k)), inside-room _ _ _ _ _ _ _ (c .before .before .before .put-name .ensures) (next-first (c .before .before .before .before .before .before .before .before .before .before .before .args .segs .now) (c .before .before .before .before .before .before .before .before .before .before .before .args .k)) (c .before .before .before .before .before .before .before .before .before .before .before .pre .1))
 
 add-put-cr : tie.Need-add-put-cr
 add-put-cr c = search needs
 
 put-cr-requires : tie.Need-put-cr-requires
 unfolding firstLeaf cell
-put-cr-requires c κs = ending-room _ _ _ _ _ _ _ (c .before .before .before .before .before .before .before .before .before .put-name .ensures) (next-first (c .before .before .before .before .before .before .before .before .before .before .before .before .before .before .before .before .before .before .args .segs .now) (c .before .before .before .before .before .before .before .before .before .before .before .before .before .before .before .before .before .before .args .k)) (c .before .before .before .before .before .put-leaves .ensures) (c .before .before .before .before .before .before .before .before .before .before .before .before .before .before .before .before .before .before .pre .1)
+put-cr-requires c κs = ending-room _ _ _ _ _ _ _ (c .before .before .before .before .before .before .before .before .before .put-name .ensures) (next-first (c .before .before .before .before .before .before .before .before .before .before .before .before .before .before .before .before .before .args .segs .now) (c .before .before .before .before .before .before .before .before .before .before .before .before .before .before .before .before .before .args .k)) (c .before .before .before .before .before .put-leaves .ensures) (c .before .before .before .before .before .before .before .before .before .before .before .before .before .before .before .before .before .pre .1)
 
 same-length : tie.Need-same-length
 same-length c = search needs
 
 returns : tie.Need-returns
 unfolding firstLeaf cell
-returns c = segment-wrote _ _ _ _ _ _ _ (c .before .before .before .before .before .before .before .before .before .before .before .before .put-name .ensures) (next-first (c .before .before .before .before .before .before .before .before .before .before .before .before .before .before .before .before .before .before .before .before .before .args .segs .now) (c .before .before .before .before .before .before .before .before .before .before .before .before .before .before .before .before .before .before .before .before .before .args .k)) (c .before .before .before .before .before .before .before .before .put-leaves .ensures) (c .before .before .put-cr .ensures)
+returns c = segment-wrote _ _ _ _ _ _ _ (c .before .before .before .before .before .before .before .before .before .before .before .before .put-name .ensures) (next-first (c .before .before .before .before .before .before .before .before .before .before .before .before .before .before .before .before .before .before .before .before .args .segs .now) (c .before .before .before .before .before .before .before .before .before .before .before .before .before .before .before .before .before .before .before .before .args .k)) (c .before .before .before .before .before .before .before .before .put-leaves .ensures) (c .before .before .put-cr .ensures)
 
 pub put-segment-spec : {M : Type 1} → statement M
 put-segment-spec =
@@ -62,13 +62,13 @@ put-segment-spec =
     mul-row
     add-first
     mul-first
-    shared-slice-read-first
+    element-copy-out-first
     add-header
     mul-header
-    shared-slice-read-header
+    element-copy-out-header
     add-end
     mul-end
-    shared-slice-read-end
+    element-copy-out-end
     put-name-requires
     put-leaves-requires
     add-put-cr

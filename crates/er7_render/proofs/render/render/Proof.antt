@@ -16,7 +16,7 @@ loop-holds : tie.Need-loop-holds Inv-loop μ-loop
 loop-holds c = joining-start _ _ _ _ _ (omega arith) (omega arith)
 
 put-segment-requires : tie.Need-put-segment-requires Inv-loop μ-loop
-put-segment-requires c κs = (in-tables (c .before .before .before .before .before .before .before .before .pre .0) _ (c .before .if1 .taken), render-room _ _ _ _ (c .before .before .before .loop .inv) (c .before .if1 .taken) (c .before .before .before .before .before .before .before .before .pre .1))
+put-segment-requires c κs = (in-tables (c .before .before .before .before .before .before .before .pre .0) _ (c .before .if1 .taken), render-room _ _ _ _ (c .before .before .before .loop .inv) (c .before .if1 .taken) (c .before .before .before .before .before .before .before .pre .1))
 
 add-k : tie.Need-add-k Inv-loop μ-loop
 add-k c = search needs

@@ -1,18 +1,12 @@
-use native.Mathlib.Omega.{arith}
-use borrow.Author.Needs.{needs}
 use Rattle.redact.proofs.redact.redact.Statement.{statement}
 use Rattle.redact.proofs.redact.redact.Tie as tie
-use Rattle.redact.proofs.redact.redact.Reads as reads
-use Rattle.redact.proofs.redact.redact.Lts as lts
-use Rattle.entries.proofs.handed.is_short.Reads as is-short-reads
-use Rattle.entries.proofs.handed.refuse.Reads as refuse-reads
-use Rattle.policy.proofs.policy.parse.Reads as parse-reads
-use Rattle.redact.proofs.redact.redact_message.Reads as redact-message-reads
+use borrow.Author.Needs.{needs}
 use mathlib.Core.Path.{sym, _∙_}
+use native.Mathlib.Omega.{arith}
 use Rattle.run_model.specs.Entries.{redactOutcome, redactAnswer}
-use Rattle.policy_print.proofs.Whole.{read-as, refused-as}
-use Rattle.entries.proofs.Outcomes.{with-short, with-wide, wide-output, wide-scratch, policy-read, policy-refused}
-use Rattle.redact.proofs.Laws.{read-not-long}
+use Rattle.entries.specs.Handed.{lent}
+use Rattle.entries.proofs.Outcomes.{with-short, wide-output}
+use Rattle.redact.proofs.Laws.{lent-report, answered-done, handed-done, handed-refused}
 
 is-short-requires : tie.Need-is-short-requires
 is-short-requires c κs = search needs
@@ -33,17 +27,17 @@ returns : tie.Need-returns
 unfolding redactOutcome redactAnswer
 returns c = c .before .before .before .before .before .before .refuse .ensures ∙ with-short _ _ (sym (c .before .before .before .before .before .before .before .before .before .before .before .is-short .ensures _) ∙ c .before .before .before .before .before .before .before .before .before .before .if1 .taken)
 
-parse-requires : tie.Need-parse-requires
-parse-requires c κs = search needs
+redact-by-requires : tie.Need-redact-by-requires
+redact-by-requires c κs = omega (arith, wide-output _ 0 _ (sym (c .before .before .before .is-short .ensures 0) ∙ c .before .before .if1 .left))
 
-enum-told : tie.Need-enum-told
-enum-told c = search needs
+enum-known-text-len : tie.Need-enum-known-text-len
+enum-known-text-len c = search needs
 
-redact-message-requires : tie.Need-redact-message-requires
-redact-message-requires c κs = (c .before .before .before .before .before .before .parse .ensures .held, read-not-long _ _ (read-as _ _ (c .before .before .before .before .before .before .parse .ensures) (c .before .before .before .enum-told .given .1)), omega (arith, wide-output _ 0 _ (sym (c .before .before .before .before .before .before .before .before .is-short .ensures 0) ∙ c .before .before .before .before .before .before .before .if1 .left)), omega (arith, wide-scratch _ 0 _ (sym (c .before .before .before .before .before .before .before .before .is-short .ensures 0) ∙ c .before .before .before .before .before .before .before .if1 .left)))
+finish-requires : tie.Need-finish-requires
+finish-requires c κs = (answered-done (c .before .before .before .before .before .before .before .before .before .before .redact-by .ensures (lent 0 _ 0) (lent-report 0 _ 0)) (c .before .before .before .before .text-len .given .1) .text-fits, answered-done (c .before .before .before .before .before .before .before .before .before .before .redact-by .ensures (lent 0 _ 0) (lent-report 0 _ 0)) (c .before .before .before .before .text-len .given .1) .report-fits)
 
-enum-known-verdict : tie.Need-enum-known-verdict
-enum-known-verdict c = search needs
+enum-known-refusal : tie.Need-enum-known-refusal
+enum-known-refusal c = search needs
 
 refuse-requires-2 : tie.Need-refuse-requires-2
 refuse-requires-2 c κs = search needs
@@ -59,7 +53,7 @@ same-length-6 c = search needs
 
 returns-2 : tie.Need-returns-2
 unfolding redactOutcome redactAnswer
-returns-2 c = c .before .before .before .before .before .before .redact-message .ensures ∙ with-wide _ _ (sym (c .before .before .before .before .before .before .before .before .before .before .before .before .before .before .before .is-short .ensures _) ∙ c .before .before .before .before .before .before .before .before .before .before .before .before .before .before .if1 .left) (policy-read _ _ _ (read-as _ _ (c .before .before .before .before .before .before .before .before .before .before .before .before .before .parse .ensures) (c .before .before .before .before .before .before .before .before .before .before .enum-told .given .1)))
+returns-2 c = handed-done (c .before .before .before .before .before .before .before .before .before .before .before .before .before .before .before .before .before .redact-by .ensures _ (lent-report _ _ _)) _ _ _ (sym (c .before .before .before .before .before .before .before .before .before .before .before .before .before .before .before .before .before .before .before .before .before .is-short .ensures _) ∙ c .before .before .before .before .before .before .before .before .before .before .before .before .before .before .before .before .before .before .before .before .if1 .left) (omega (arith, c .before .before .before .before .before .before .before .before .before .before .before .before .before .before .before .before .output2)) (omega (arith, c .before .before .before .before .before .before .before .before .before .before .before .before .before .before .report2)) (c .before .before .before .before .before .before .before .before .before .before .before .text-len .given .1) (c .before .before .before .before .before .before .finish .ensures)
 
 same-length-7 : tie.Need-same-length-7
 same-length-7 c = search needs
@@ -72,7 +66,7 @@ same-length-9 c = search needs
 
 returns-3 : tie.Need-returns-3
 unfolding redactOutcome redactAnswer
-returns-3 c = c .before .before .before .before .before .before .refuse2 .ensures ∙ with-wide _ _ (sym (c .before .before .before .before .before .before .before .before .before .before .before .before .before .before .before .before .is-short .ensures _) ∙ c .before .before .before .before .before .before .before .before .before .before .before .before .before .before .before .if1 .left) (policy-refused _ _ (refused-as _ _ (c .before .before .before .before .before .before .before .before .before .before .before .before .before .before .parse .ensures) (c .before .before .before .before .before .before .before .before .before .before .before .verdict .given .1)))
+returns-3 c = handed-refused (c .before .before .before .before .before .before .before .before .before .before .before .before .before .before .before .before .before .redact-by .ensures _ (lent-report _ _ _)) _ _ _ (sym (c .before .before .before .before .before .before .before .before .before .before .before .before .before .before .before .before .before .before .before .before .before .is-short .ensures _) ∙ c .before .before .before .before .before .before .before .before .before .before .before .before .before .before .before .before .before .before .before .before .if1 .left) (omega (arith, c .before .before .before .before .before .before .before .before .before .before .before .before .before .before .before .before .output2)) (omega (arith, c .before .before .before .before .before .before .before .before .before .before .before .before .before .before .report2)) (c .before .before .before .before .before .before .before .before .before .before .before .refusal .given .1) (c .before .before .before .before .before .before .refuse2 .ensures)
 
 pub redact-spec : {M : Type 1} → statement M
 redact-spec =
@@ -84,10 +78,10 @@ redact-spec =
     same-length-2
     same-length-3
     returns
-    parse-requires
-    enum-told
-    redact-message-requires
-    enum-known-verdict
+    redact-by-requires
+    enum-known-text-len
+    finish-requires
+    enum-known-refusal
     refuse-requires-2
     same-length-4
     same-length-5

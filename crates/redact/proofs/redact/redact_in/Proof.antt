@@ -1,14 +1,8 @@
-use borrow.Author.Needs.{needs}
 use Rattle.redact.proofs.redact.redact_in.Statement.{statement}
 use Rattle.redact.proofs.redact.redact_in.Tie as tie
-use Rattle.redact.proofs.redact.redact_in.Reads as reads
-use Rattle.redact.proofs.redact.redact_in.Lts as lts
-use Rattle.entries.proofs.handed.refuse.Reads as refuse-reads
-use Rattle.er7_message.proofs.message.parse.Reads as parse-reads
-use Rattle.redact.proofs.redact.redact_read.Reads as redact-read-reads
-use mathlib.Core.Path.{ap, _∙_}
-use Rattle.run_model.specs.Entries.{outcome}
-use Rattle.redact.proofs.Laws.{parsed-read, no-message-fault, message-refused}
+use borrow.Author.Needs.{needs}
+use native.Mathlib.Omega.{arith}
+use Rattle.redact.proofs.Laws.{no-fault, parsed-loaded, any-loaded, message-refused, run-refused, report-full, run-done}
 
 parse-requires : tie.Need-parse-requires
 parse-requires c κs = search needs
@@ -16,14 +10,11 @@ parse-requires c κs = search needs
 enum-known-counts : tie.Need-enum-known-counts
 enum-known-counts c = search needs
 
-redact-read-requires : tie.Need-redact-read-requires
-redact-read-requires c κs = (c .before .before .before .before .before .before .before .before .before .before .before .before .before .before .before .before .before .before .before .before .before .before .pre .0, parsed-read (c .before .before .before .before .before .before .before .before .before .before .before .before .parse .ensures) (c .before .before .before .before .before .before .counts .given .1) (c .before .before .before .before .before .before .before .before .before .before .before .before .before .before .before .before .before .before .before .before .before .before .pre .1), c .before .before .before .before .before .before .before .before .before .before .before .before .before .before .before .before .before .before .before .before .before .before .pre .4, c .before .before .before .before .before .before .before .before .before .before .before .before .before .before .before .before .before .before .before .before .before .before .pre .5)
+redact-from-requires : tie.Need-redact-from-requires
+redact-from-requires c κs = (c .before .before .before .before .before .before .before .before .before .before .before .before .before .before .before .before .before .pre .0, any-loaded (c .before .before .before .before .before .before .before .before .before .parse .ensures) (c .before .before .before .before .before .counts .given .1) (c .before .before .before .before .before .before .before .before .before .before .before .before .before .before .before .before .before .pre .1))
 
-enum-known-refusal : tie.Need-enum-known-refusal
-enum-known-refusal c = search needs
-
-refuse-requires : tie.Need-refuse-requires
-refuse-requires c κs = search needs
+enum-known-text-len : tie.Need-enum-known-text-len
+enum-known-text-len c = search needs
 
 same-length : tie.Need-same-length
 same-length c = search needs
@@ -34,17 +25,26 @@ same-length-2 c = search needs
 same-length-3 : tie.Need-same-length-3
 same-length-3 c = search needs
 
+returns : tie.Need-returns
+returns c = λ b e. report-full _ _ _ (no-fault (c .before .before .before .before .before .before .before .before .before .before .before .before .before .before .before .before .before .before .before .before .parse .ensures) (c .before .before .before .before .before .before .before .before .before .before .before .before .before .before .before .before .counts .given .1)) (c .before .before .before .before .before .before .before .before .before .before .redact-from .ensures _ (parsed-loaded (c .before .before .before .before .before .before .before .before .before .before .before .before .before .before .before .before .before .before .before .before .parse .ensures) (c .before .before .before .before .before .before .before .before .before .before .before .before .before .before .before .before .counts .given .1) (c .before .before .before .before .before .before .before .before .before .before .before .before .before .before .before .before .before .before .before .before .before .before .before .before .before .before .before .before .pre .1))) (c .before .before .text-len .given .1) b (omega (arith, e, c .if1 .taken, c .before .before .before .before .before .report))
+
+enum-known-refusal : tie.Need-enum-known-refusal
+enum-known-refusal c = search needs
+
+enum-known-refusal-2 : tie.Need-enum-known-refusal-2
+enum-known-refusal-2 c = search needs
+
 same-length-4 : tie.Need-same-length-4
 same-length-4 c = search needs
 
 same-length-5 : tie.Need-same-length-5
 same-length-5 c = search needs
 
-returns : tie.Need-returns
-returns c = c .before .before .before .before .before .before .before .before .redact-read .ensures ∙ ap (outcome _) (no-message-fault (c .before .before .before .before .before .before .before .before .before .before .before .before .before .before .before .before .before .before .before .before .before .parse .ensures) (c .before .before .before .before .before .before .before .before .before .before .before .before .before .before .before .counts .given .1) _)
-
 same-length-6 : tie.Need-same-length-6
 same-length-6 c = search needs
+
+returns-2 : tie.Need-returns-2
+returns-2 c = λ b e. run-done _ _ _ (no-fault (c .before .before .before .before .before .before .before .before .before .before .before .before .before .before .before .before .before .before .before .before .parse .ensures) (c .before .before .before .before .before .before .before .before .before .before .before .before .before .before .before .before .counts .given .1)) (c .before .before .before .before .before .before .before .before .before .before .redact-from .ensures _ (parsed-loaded (c .before .before .before .before .before .before .before .before .before .before .before .before .before .before .before .before .before .before .before .before .parse .ensures) (c .before .before .before .before .before .before .before .before .before .before .before .before .before .before .before .before .counts .given .1) (c .before .before .before .before .before .before .before .before .before .before .before .before .before .before .before .before .before .before .before .before .before .before .before .before .before .before .before .before .pre .1))) (c .before .before .text-len .given .1) b (c .before .before .before .before .before .before .before .before .before .before .before .before .before .before .before .before .before .before .before .before .before .before .before .before .before .before .before .before .pre .3) (omega (arith, e, c .before .before .before .before .before .report)) (omega (arith, c .if1 .left))
 
 same-length-7 : tie.Need-same-length-7
 same-length-7 c = search needs
@@ -55,11 +55,14 @@ same-length-8 c = search needs
 same-length-9 : tie.Need-same-length-9
 same-length-9 c = search needs
 
+returns-3 : tie.Need-returns-3
+returns-3 c = λ b e. run-refused _ _ _ (no-fault (c .before .before .before .before .before .before .before .before .before .before .before .before .before .before .before .before .before .before .before .parse .ensures) (c .before .before .before .before .before .before .before .before .before .before .before .before .before .before .before .counts .given .1)) (c .before .before .before .before .before .before .before .before .before .redact-from .ensures _ (parsed-loaded (c .before .before .before .before .before .before .before .before .before .before .before .before .before .before .before .before .before .before .before .parse .ensures) (c .before .before .before .before .before .before .before .before .before .before .before .before .before .before .before .counts .given .1) (c .before .before .before .before .before .before .before .before .before .before .before .before .before .before .before .before .before .before .before .before .before .before .before .before .before .before .before .pre .1))) b (c .before .refusal .given .1)
+
 same-length-10 : tie.Need-same-length-10
 same-length-10 c = search needs
 
-returns-2 : tie.Need-returns-2
-returns-2 c = c .before .before .before .before .before .before .refuse .ensures ∙ ap (outcome _) (message-refused (c .before .before .before .before .before .before .before .before .before .before .before .before .before .before .before .before .before .parse .ensures) (c .before .before .before .before .before .before .before .before .before .before .before .refusal .given .1) _)
+returns-4 : tie.Need-returns-4
+returns-4 c = λ b e. message-refused (c .before .before .before .before .before .parse .ensures) (c .before .refusal2 .given .1) _
 
 pub redact-in-spec : {M : Type 1} → statement M
 redact-in-spec =
@@ -67,18 +70,21 @@ redact-in-spec =
     (tie.spec
     parse-requires
     enum-known-counts
-    redact-read-requires
-    enum-known-refusal
-    refuse-requires
+    redact-from-requires
+    enum-known-text-len
     same-length
     same-length-2
     same-length-3
+    returns
+    enum-known-refusal
+    enum-known-refusal-2
     same-length-4
     same-length-5
-    returns
     same-length-6
+    returns-2
     same-length-7
     same-length-8
     same-length-9
+    returns-3
     same-length-10
-    returns-2)
+    returns-4)

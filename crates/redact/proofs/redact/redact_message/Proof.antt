@@ -1,20 +1,14 @@
-use borrow.Author.Needs.{needs}
 use Rattle.redact.proofs.redact.redact_message.Statement.{statement}
 use Rattle.redact.proofs.redact.redact_message.Tie as tie
-use Rattle.redact.proofs.redact.redact_message.Reads as reads
-use Rattle.redact.proofs.redact.redact_message.Lts as lts
-use Rattle.redact.proofs.redact.redact_in.Reads as redact-in-reads
+use borrow.Author.Needs.{needs}
 use native.Mathlib.Omega.{arith}
 use Rattle.redact.proofs.Laws.{short-room, full-room}
 
 slice-aggregate-redact-in : tie.Need-slice-aggregate-redact-in
 slice-aggregate-redact-in c = search needs
 
-slice-aggregate-redact-in-2 : tie.Need-slice-aggregate-redact-in-2
-slice-aggregate-redact-in-2 c = search needs
-
 redact-in-requires : tie.Need-redact-in-requires
-redact-in-requires c κs = (c .before .before .before .before .before .before .before .before .before .before .before .pre .0, c .before .before .before .before .before .before .before .before .before .before .before .pre .1, search needs, short-room _ _ (omega (arith, c .before .before .before .before .before .if1 .taken)), c .before .before .before .before .before .before .before .before .before .before .before .pre .2, c .before .before .before .before .before .before .before .before .before .before .before .pre .3)
+redact-in-requires c κs = (c .before .before .before .before .before .before .before .before .before .pre .0, c .before .before .before .before .before .before .before .before .before .pre .1, short-room _ _ (omega (arith, c .before .before .before .before .if1 .taken)), c .before .before .before .before .before .before .before .before .before .pre .2)
 
 same-length : tie.Need-same-length
 same-length c = search needs
@@ -22,29 +16,20 @@ same-length c = search needs
 same-length-2 : tie.Need-same-length-2
 same-length-2 c = search needs
 
-same-length-3 : tie.Need-same-length-3
-same-length-3 c = search needs
-
 returns : tie.Need-returns
 returns c = search needs
 
-slice-aggregate-redact-in-3 : tie.Need-slice-aggregate-redact-in-3
-slice-aggregate-redact-in-3 c = search needs
-
-slice-aggregate-redact-in-4 : tie.Need-slice-aggregate-redact-in-4
-slice-aggregate-redact-in-4 c = search needs
+slice-aggregate-redact-in-2 : tie.Need-slice-aggregate-redact-in-2
+slice-aggregate-redact-in-2 c = search needs
 
 redact-in-requires-2 : tie.Need-redact-in-requires-2
-redact-in-requires-2 c κs = (c .before .before .before .before .before .before .before .before .before .before .before .pre .0, c .before .before .before .before .before .before .before .before .before .before .before .pre .1, search needs, full-room _ _ (search needs), c .before .before .before .before .before .before .before .before .before .before .before .pre .2, c .before .before .before .before .before .before .before .before .before .before .before .pre .3)
+redact-in-requires-2 c κs = (c .before .before .before .before .before .before .before .before .before .pre .0, c .before .before .before .before .before .before .before .before .before .pre .1, full-room _ _ (search needs), c .before .before .before .before .before .before .before .before .before .pre .2)
+
+same-length-3 : tie.Need-same-length-3
+same-length-3 c = search needs
 
 same-length-4 : tie.Need-same-length-4
 same-length-4 c = search needs
-
-same-length-5 : tie.Need-same-length-5
-same-length-5 c = search needs
-
-same-length-6 : tie.Need-same-length-6
-same-length-6 c = search needs
 
 returns-2 : tie.Need-returns-2
 returns-2 c = search needs
@@ -54,16 +39,12 @@ redact-message-spec =
     tie.close
     (tie.spec
     slice-aggregate-redact-in
-    slice-aggregate-redact-in-2
     redact-in-requires
     same-length
     same-length-2
-    same-length-3
     returns
-    slice-aggregate-redact-in-3
-    slice-aggregate-redact-in-4
+    slice-aggregate-redact-in-2
     redact-in-requires-2
+    same-length-3
     same-length-4
-    same-length-5
-    same-length-6
     returns-2)

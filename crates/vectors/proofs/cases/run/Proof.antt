@@ -1,8 +1,8 @@
+use borrow.Author.Needs.{needs}
 use Rattle.vectors.proofs.cases.run.Statement.{statement}
 use Rattle.vectors.proofs.cases.run.Tie as tie
-use borrow.Author.Needs.{needs}
-use Prim.Native.Nat.{_-_, _≤_}
 use lib.ListN.{length}
+use Prim.Native.Nat.{_-_, _≤_}
 
 abbrev Inv-loop : tie.InvT-loop
 Inv-loop text tally₀ i₀ tally i = i ≤ length text

@@ -1,12 +1,11 @@
+use borrow.Author.Needs.{needs}
 use Rattle.vectors.proofs.lines.unescape.Statement.{statement}
 use Rattle.vectors.proofs.lines.unescape.Tie as tie
-use borrow.Author.Needs.{needs}
+use lib.ListN.{length}
 use Prim.Native.Nat.{_-_, _≤_}
-use mathlib.Core.Path.{_≡_}
-use lib.ListN.{length, length-set}
 
 abbrev Inv-loop : tie.InvT-loop
-Inv-loop s out₀ i₀ n₀ out i n = (n ≤ length out) × (i ≤ length s) × (length out ≡ length out₀)
+Inv-loop s out₀ i₀ n₀ out i n = (n ≤ 131072) × (i ≤ length s)
 
 abbrev μ-loop : tie.MeasureT-loop
 μ-loop s out₀ i₀ n₀ out i n = length s - i
@@ -14,32 +13,44 @@ abbrev μ-loop : tie.MeasureT-loop
 loop-holds : tie.Need-loop-holds Inv-loop μ-loop
 loop-holds c = search needs
 
-same-length : tie.Need-same-length Inv-loop μ-loop
-same-length c = search needs
-
 returns : tie.Need-returns Inv-loop μ-loop
 returns c = search needs
 
-byte-of-requires : tie.Need-byte-of-requires Inv-loop μ-loop
-byte-of-requires c κs = search needs
+sub-first : tie.Need-sub-first Inv-loop μ-loop
+sub-first c = search needs
 
-slice-write-out : tie.Need-slice-write-out Inv-loop μ-loop
-slice-write-out c = search needs
+part-first-start : tie.Need-part-first-start Inv-loop μ-loop
+part-first-start c = search needs
+
+part-first-end : tie.Need-part-first-end Inv-loop μ-loop
+part-first-end c = search needs
+
+first-requires : tie.Need-first-requires Inv-loop μ-loop
+first-requires c κs = search needs
+
+sub-if2 : tie.Need-sub-if2 Inv-loop μ-loop
+sub-if2 c = search needs
+
+returns-2 : tie.Need-returns-2 Inv-loop μ-loop
+returns-2 c = search needs
+
+element-write-out : tie.Need-element-write-out Inv-loop μ-loop
+element-write-out c = search needs
 
 add-n : tie.Need-add-n Inv-loop μ-loop
 add-n c = search needs
+
+add-i : tie.Need-add-i Inv-loop μ-loop
+add-i c = search needs
 
 loop-less : tie.Need-loop-less Inv-loop μ-loop
 loop-less c = search needs
 
 loop-again : tie.Need-loop-again Inv-loop μ-loop
-loop-again c = simp length-set (search needs)
+loop-again c = search needs
 
-same-length-2 : tie.Need-same-length-2 Inv-loop μ-loop
-same-length-2 c = search needs
-
-returns-2 : tie.Need-returns-2 Inv-loop μ-loop
-returns-2 c = search needs
+returns-3 : tie.Need-returns-3 Inv-loop μ-loop
+returns-3 c = search needs
 
 pub unescape-spec : {M : Type 1} → statement M
 unescape-spec =
@@ -48,12 +59,16 @@ unescape-spec =
     Inv-loop
     μ-loop
     loop-holds
-    same-length
     returns
-    byte-of-requires
-    slice-write-out
+    sub-first
+    part-first-start
+    part-first-end
+    first-requires
+    sub-if2
+    returns-2
+    element-write-out
     add-n
+    add-i
     loop-less
     loop-again
-    same-length-2
-    returns-2)
+    returns-3)

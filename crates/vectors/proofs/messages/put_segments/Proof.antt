@@ -1,36 +1,34 @@
+use borrow.Author.Needs.{needs}
 use Rattle.vectors.proofs.messages.put_segments.Statement.{statement}
 use Rattle.vectors.proofs.messages.put_segments.Tie as tie
-use borrow.Author.Needs.{needs}
-use mathlib.Core.Path.{_≡_}
-use Prim.Native.Nat.{_-_, _≤_}
-use lib.ListN.{length}
+use Prim.Native.Nat.{_-_}
 
 abbrev Inv-loop : tie.InvT-loop
-Inv-loop text segs n cells out₀ at₀ k₀ out at k = (at ≤ length out) × (length out ≡ length out₀)
+Inv-loop text segs n cells out₀ k₀ i₀ out k i = Unit {0}
 
 abbrev μ-loop : tie.MeasureT-loop
-μ-loop text segs n cells out₀ at₀ k₀ out at k = n - k
+μ-loop text segs n cells out₀ k₀ i₀ out k i = n - i
 
 loop-holds : tie.Need-loop-holds Inv-loop μ-loop
 loop-holds c = search needs
 
-mul-put-segment : tie.Need-mul-put-segment Inv-loop μ-loop
-mul-put-segment c = search needs
+add-cell : tie.Need-add-cell Inv-loop μ-loop
+add-cell c = search needs
+
+cell-requires : tie.Need-cell-requires Inv-loop μ-loop
+cell-requires c κs = search needs
 
 put-segment-requires : tie.Need-put-segment-requires Inv-loop μ-loop
 put-segment-requires c κs = search needs
 
-add-k : tie.Need-add-k Inv-loop μ-loop
-add-k c = search needs
+add-i : tie.Need-add-i Inv-loop μ-loop
+add-i c = search needs
 
 loop-less : tie.Need-loop-less Inv-loop μ-loop
 loop-less c = search needs
 
 loop-again : tie.Need-loop-again Inv-loop μ-loop
 loop-again c = search needs
-
-same-length : tie.Need-same-length Inv-loop μ-loop
-same-length c = search needs
 
 returns : tie.Need-returns Inv-loop μ-loop
 returns c = search needs
@@ -42,10 +40,10 @@ put-segments-spec =
     Inv-loop
     μ-loop
     loop-holds
-    mul-put-segment
+    add-cell
+    cell-requires
     put-segment-requires
-    add-k
+    add-i
     loop-less
     loop-again
-    same-length
     returns)

@@ -1,0 +1,3 @@
+// One message, redacted.
+pub mod core;
+pub mod run;

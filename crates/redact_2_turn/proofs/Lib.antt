@@ -1,0 +1,6 @@
+pub mod Aims
+pub mod Still
+pub mod Funds
+pub mod Turns
+pub mod Idle
+pub mod Visiting

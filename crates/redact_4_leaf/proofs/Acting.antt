@@ -1,0 +1,159 @@
+-- Laws of an action on a leaf, its text in the store, its row and the book. Assumes nothing.
+use mathlib.Core.Path.{_≡_, refl, sym, ap, _∙_}
+use mathlib.Core.Bool.{Bool, true, false}
+use mathlib.Core.List.{List, [], _∷_, _++_}
+use mathlib.Core.Option.{some}
+use Prim.Native.Nat.{ℕ, _+_, _-_, _≤_, _<_}
+use native.Mathlib.Omega.{arith}
+use borrow.Author.Tests.{lt-ltb, le-ltb}
+use lib.ListN.{length, length-append}
+use Rattle.text.specs.Text.{Text, part, SameTo}
+use Rattle.text.proofs.Laws.{clash}
+use Rattle.text.proofs.Kept.{part-same, part-length}
+use Rattle.refusal.specs.declared.Refusal.the-variants.{MessageTooLong}
+use Rattle.run_model.specs.Redact.{Fate, stays, after, Row, changing, Known, Book, stopped, booked, bookAll}
+use Rattle.er7_table.specs.Table.{cell, textAt, Good}
+use Rattle.er7_render.specs.Stored.{TextSet, liveLen}
+use Rattle.er7_render.proofs.Slots.{good-more, set-good}
+use Rattle.redact_6_row.proofs.Rows.{reported-more}
+use Rattle.redact_5_act.specs.Act.{LeafHeld, Became, Overran, ActedBeside}
+use Rattle.redact_5_act.specs.declared.act.Fate.{Fate as HeldFate}
+use Rattle.redact_5_act.specs.declared.act.Fate.the-variants.{Stays, Becomes, TooLong}
+use Rattle.redact_5_act.specs.declared.state.Counters.{Counters}
+use Rattle.redact_5_act.specs.declared.state.Done.the-variants.{Going, Stopped}
+use Rattle.redact_4_leaf.specs.State.{textOf, Booked, Ready, NodeReady, Entered, Changed, ActedOn}
+
+-- ---- a leaf that has not vanished
+
+pub record Live (cells : List ℕ) (store : Text) (n i : ℕ) (c : Counters) : Type 0 where
+  pub inside : i < n
+  pub good : Good cells store n (c .used)
+  pub live : cell cells i 3 ≡ 0
+  pub most : c .size ≤ 49152
+
+pub ready-live : {cells : List ℕ} {store : Text} {n i : ℕ} {c : Counters} → Ready cells store n i c → Live cells store n i c
+ready-live w = record { inside = w .inside; good = w .good; live = w .live; most = w .room .most }
+
+pub node-live : {cells : List ℕ} {store : Text} {n i end : ℕ} {c : Counters} → NodeReady cells store n i end c → Live cells store n i c
+node-live w = record { inside = omega (arith, w .inside, w .ends); good = w .good; live = w .live; most = w .most }
+
+pub live-text : (cells : List ℕ) (store : Text) (i : ℕ) → cell cells i 3 ≡ 0 → textAt cells store i ≡ some (textOf cells store i)
+unfolding textAt textOf
+live-text cells store i e = rw e
+
+pub live-length : (cells : List ℕ) (i : ℕ) → cell cells i 3 ≡ 0 → liveLen cells i ≡ cell cells i 2
+unfolding liveLen
+live-length cells i e = rw e
+
+pub text-length : {cells : List ℕ} {store : Text} {n i : ℕ} {c : Counters} → Live cells store n i c → length (textOf cells store i) ≡ cell cells i 2
+unfolding textOf
+text-length {cells} {store} {n} {i} w = part-length store (cell cells i 1) (cell cells i 2) (omega (arith, w .good .ends i (w .inside), w .good .room))
+
+-- ---- the texts of n leaves, where what stands behind them changed
+
+module _ {cells : List ℕ} {store store′ : Text} {n used : ℕ} (g : Good cells store n used) (k : SameTo used store store′) where
+  pub kept-text : (j : ℕ) → j < n → textAt cells store′ j ≡ textAt cells store j
+  unfolding textAt
+  kept-text j h = rw (part-same k (cell cells j 1) (cell cells j 2) (g .ends j h))
+
+  pub kept-good : Good cells store′ n used
+  kept-good = record { rows = g .rows; room = rw (k .long) (g .room); ends = g .ends }
+
+set-lens : {cells cells′ : List ℕ} {i start len : ℕ} → TextSet cells i start len cells′ → (j : ℕ) → (j ≡ i → ⊥) → liveLen cells′ j ≡ liveLen cells j
+unfolding liveLen
+set-lens v j ne = rw (v .gone j, v .other j 2 (omega arith) ne)
+
+-- ---- what becomes of a leaf
+
+module _ {cells : List ℕ} {store : Text} {n i : ℕ} {c : Counters} (g : Live cells store n i c) {F : Fate} (node : Bool) (ρ : Row) (went : ℕ) {report store′ : Text} where
+  -- nothing
+  pub stayed : (F ≡ stays) × SameTo (c .used) store store′ → Changed node F ρ went n i cells store report c cells store′ report c
+  stayed (e, k) = record {
+    good = kept-good (g .good) k;
+    here = rw e (unfold after in (kept-text (g .good) k i (g .inside) ∙ live-text cells store i (g .live)));
+    other = λ j h ne. kept-text (g .good) k j h;
+    place = λ j. refl;
+    lens = λ j ne. refl;
+    cells-long = refl;
+    report-long = refl;
+    paid = λ q. omega arith;
+    flat = λ q. omega arith;
+    grows = omega arith;
+    known = refl;
+    known-used = refl;
+    rows = omega arith;
+    report-most = omega arith;
+    size-most = g .most;
+    book = λ sweep ks b k. rw e (unfold changing bookAll in k);
+  }
+
+  -- a new text
+  module _ {came : ℕ} (w : Became F went c store store′ came) {cells′ : List ℕ} {report′ : Text} {c′ : Counters} (e : Entered ρ i went came cells report c cells′ report′ c′) where
+    new-set : TextSet cells i (c .used) (length (w .text)) cells′
+    new-set = rw (w .long) at (e .set)
+
+    new-used : c′ .used ≡ c .used + length (w .text)
+    new-used = rw (w .long) at (e .used)
+
+    new-size : c′ .size ≡ c .size - went + length (w .text)
+    new-size = rw (w .long) at (e .size)
+
+    new-room : c .used + length (w .text) ≤ length store′
+    new-room = rw (w .stands .before .long) (w .stands .room)
+
+    new-book : (sweep : Bool) (ks : List Known) (b : Book) → Booked ks report c b → Booked ks report′ c′ (bookAll sweep (changing ρ went F) b)
+    unfolding changing bookAll booked
+    new-book sweep ks b k = record {
+      rows = k .rows ++ (ρ ∷ []);
+      is = rw (k .is, w .is, le-ltb 49152 (c .size - went + length (w .text)) (omega (arith, w .few, w .long)), new-size);
+      count = rw (length-append (k .rows) (ρ ∷ [])) (omega (arith, e .rows, k .count));
+      reported = reported-more ρ (k .reported) (e .row);
+    }
+
+    pub entered : (node ≡ false → (went ≡ cell cells i 2) × (cell cells i 2 ≤ c .size)) → (node ≡ true → came ≤ 2) → Changed node F ρ went n i cells store report c cells′ store′ report′ c′
+    entered one flat = record {
+      good = rw new-used (set-good (good-more (kept-good (g .good) (w .stands .before)) (omega arith) new-room) new-set (omega arith) (omega arith) new-room);
+      here = rw (w .is) (unfold after in (new-set .here store′ (g .live) ∙ ap some (w .stands .here)));
+      other = λ j h ne. new-set .other-text store′ j ne ∙ kept-text (g .good) (w .stands .before) j h;
+      place = new-set .place;
+      lens = set-lens new-set;
+      cells-long = new-set .rows;
+      report-long = e .row .long;
+      paid = λ q. omega (arith, new-used, new-size, one q .0, one q .1);
+      flat = λ q. omega (arith, e .used, flat q);
+      grows = omega (arith, new-used);
+      known = e .known;
+      known-used = e .known-used;
+      rows = omega (arith, e .rows);
+      report-most = e .row-most;
+      size-most = omega (arith, e .size, w .few);
+      book = new-book;
+    }
+
+-- "a change leaves the message over 49,152 bytes"
+pub overran : {c : Counters} (F : Fate) (ρ : Row) (went : ℕ) (report : Text) → Overran F went c → (sweep : Bool) (ks : List Known) (b : Book) → Booked ks report c b → bookAll sweep (changing ρ went F) b ≡ stopped MessageTooLong
+unfolding changing bookAll booked
+overran {c} F ρ went report o sweep ks b k = rw (k .is, o .is, lt-ltb 49152 (c .size - went + length (o .text)) (o .over))
+
+-- ---- by the answer of `act`
+
+pub became-few : {F : Fate} {went : ℕ} {c : Counters} {store store′ bytes bytes′ : Text} {r : HeldFate} {k : ℕ} → ActedBeside F went c store store′ bytes bytes′ r → r ≡ Becomes k → k ≤ 49152
+became-few a q = omega (arith, (rw q at a) .out .few)
+
+module _ {cells : List ℕ} {store : Text} {n i : ℕ} {c : Counters} (g : Ready cells store n i c) where
+  pub leaf-held : LeafHeld (cell cells i 1) (cell cells i 2) c
+  leaf-held = record { inside = g .good .ends i (g .inside); room = g .room }
+
+  module _ (F : Fate) (ρ : Row) (report : Text) {store′ bytes bytes′ : Text} {r : HeldFate} (a : ActedBeside F (cell cells i 2) c store store′ bytes bytes′ r) where
+    pub acted-stays : r ≡ Stays → ActedOn F ρ n i cells store report bytes c cells store′ report bytes′ (Going c)
+    acted-stays q = record { change = record { out = stayed (ready-live g) false ρ _ ((rw q at a) .out) }; beside = a .beside }
+
+    pub acted-becomes : {k : ℕ} → r ≡ Becomes k → {cells′ : List ℕ} {report′ : Text} {c′ : Counters} → Entered ρ i (cell cells i 2) k cells report c cells′ report′ c′
+        → ActedOn F ρ n i cells store report bytes c cells′ store′ report′ bytes′ (Going c′)
+    acted-becomes q e = record {
+      change = record { out = entered (ready-live g) false ρ _ ((rw q at a) .out) e (λ x. (refl, g .room .within)) (λ x. clash (sym x)) };
+      beside = a .beside;
+    }
+
+    pub acted-long : r ≡ TooLong → {cells′ : List ℕ} {report′ : Text} → ActedOn F ρ n i cells store report bytes c cells′ store′ report′ bytes′ (Stopped MessageTooLong)
+    acted-long q = record { change = record { out = overran F ρ _ report ((rw q at a) .out) }; beside = a .beside }

@@ -1,0 +1,82 @@
+// Visits to a leaf that may be touched and that has not vanished.
+use super::leaf::Spot;
+use super::leaf::act_on;
+use super::learn::learn_at;
+use er7_redact::action::is_keep;
+use er7_redact::policy::Rule;
+use redact_5_act::known::action_at;
+use redact_5_act::known::for_sweep;
+use redact_5_act::state::Counters;
+use redact_5_act::state::Done;
+use redact_5_act::state::Setting;
+ghost use mathlib.Core.Path.{_≡_};
+ghost use mathlib.Core.Bool.{Bool, true, false};
+ghost use mathlib.Core.List.{List};
+ghost use Prim.Native.Nat.{_≤_};
+ghost use lib.ListN.{length};
+ghost use Rattle.er7_redact.specs.Action.{ActionHeld};
+ghost use Rattle.er7_redact.specs.Policy.{asRule};
+ghost use Rattle.run_model.specs.Redact.{reach, each-leaf, covers, forSweep, isUnnamed};
+ghost use Rattle.er7_table.specs.Table.{placeAt, asLabel};
+ghost use Rattle.redact_4_leaf.specs.State.{buffers, marked, KnownHeld, Ready, Marked};
+ghost use Rattle.redact_4_leaf.specs.Visit.{rulePass, unnamedPass, Visit};
+
+// A rule that acts on each leaf, on a leaf that it covers and that is named by now: unless it is kept, it is learnt and acted on.
+pub fn apply_leaf(
+    on: Setting,
+    at: Spot,
+    rule: Rule,
+    text: &[u8],
+    cells: &mut [usize],
+    store: &mut [u8; 98304],
+    report: &mut [u8],
+    bytes: &mut [u8; 65536],
+    known: &mut [usize; 4096],
+    c: Counters,
+) -> Done
+    requires { ⌜ ActionHeld (now text) (rule .action) × (reach (asRule (now text) rule) ≡ each-leaf) × (covers (asRule (now text) rule) (asLabel (at .label)) (placeAt (now cells) (at .index)) ≡ true) × Ready (now cells) (now store) (on .leaves) (at .index) c × KnownHeld (now text) (now bytes) (now known) c × (length (now text) ≤ 32768) × (on .leaves ≤ 4096) ⌝ }
+    ensures { λ r. ⌜ ((named named′ : List Bool) → Marked named (at .index) named′ → Visit (λ ks. rulePass (on .key) (on .separators) (asRule (now (text .entry)) rule)) false on at (now (text .entry)) (buffers named (now (cells .entry)) (now (store .entry)) (now (report .entry)) (now (bytes .entry)) (now (known .entry))) c (buffers named′ (now (cells .exit)) (now (store .exit)) (now (report .exit)) (now (bytes .exit)) (now (known .exit))) r) ⌝ }
+{
+    let a = rule.action;
+    if is_keep(a) {
+        return Done::Going(c);
+    }
+    match learn_at(on, a, at.index, cells, store, bytes, known, c) {
+        Done::Going(next) => act_on(on, at, a, text, cells, store, report, bytes, next),
+        Done::Stopped(refusal) => Done::Stopped(refusal),
+    }
+}
+
+// The sweep on a leaf that is not named: the action of the first learnt value that is a whole word of it.
+pub fn sweep_leaf(
+    on: Setting,
+    at: Spot,
+    text: &[u8],
+    cells: &mut [usize],
+    store: &mut [u8; 98304],
+    report: &mut [u8],
+    bytes: &mut [u8; 65536],
+    known: &[usize; 4096],
+    c: Counters,
+) -> Done
+    requires { ⌜ KnownHeld (now text) (now bytes) (now known) c × Ready (now cells) (now store) (on .leaves) (at .index) c × (length (now text) ≤ 32768) × (on .leaves ≤ 4096) ⌝ }
+    ensures { λ r. ⌜ ((named : List Bool) → isUnnamed (asLabel (at .label)) (placeAt (now (cells .entry)) (at .index)) (marked named (at .index)) ≡ true → Visit (λ ks. unnamedPass (on .key) (on .separators) (forSweep (on .separators) ks)) false on at (now (text .entry)) (buffers named (now (cells .entry)) (now (store .entry)) (now (report .entry)) (now (bytes .entry)) (now (known .entry))) c (buffers named (now (cells .exit)) (now (store .exit)) (now (report .exit)) (now (bytes .exit)) (now (known .entry))) r) ⌝ }
+{
+    let row = at.index * 8;
+    let start = cells[row + 1];
+    let end = start + cells[row + 2];
+    let all = &store[..];
+    let k = for_sweep(
+        on.separators,
+        &all[start..end],
+        bytes,
+        known,
+        c.known,
+        c.known_used,
+    );
+    if k == c.known {
+        return Done::Going(c);
+    }
+    let a = action_at(known, k);
+    act_on(on, at, a, text, cells, store, report, bytes, c)
+}

@@ -1,0 +1,44 @@
+-- What the contracts of private functions cite; no public contract rests on it. Assumes nothing: these are definitions.
+use mathlib.Core.Path.{_≡_}
+use mathlib.Core.Bool.{cond}
+use mathlib.Core.List.{List}
+use mathlib.Core.Option.{Option}
+use Prim.Native.Nat.{ℕ, _+_, _-_, _*_, _≤_, _<_}
+use lib.ListN.{getD}
+use Rattle.text.specs.Text.{Text, between}
+use Rattle.er7.specs.declared.separators.Separators.{Separators}
+use Rattle.er7_redact.specs.declared.action.Action.{Action as HeldAction}
+use Rattle.er7_redact.specs.Action.{Action, apply, room}
+use Rattle.message_model.specs.Value.{NULL, isNull, value}
+use Rattle.run_model.specs.Redact.{Fate, stays, becomes, replaced}
+use Rattle.redact_5_act.specs.Known.{actionAt}
+use Rattle.redact_5_act.specs.declared.state.Counters.{Counters}
+
+-- a leaf under the action null
+unfoldable pub nulled : Text → Fate
+nulled t = cond (isNull t) stays (becomes NULL)
+
+-- a leaf that is neither empty nor null, under another action
+unfoldable pub onValue : ℕ → Separators → Action → Text → Fate
+onValue key s a t = replaced s (apply key a (value s t)) (value s t)
+
+-- the value that stands in bytes from behind the learnt values to index `to`; that of a leaf of len bytes
+unfoldable pub decodedAt : Text → ℕ → Counters → Text
+decodedAt bytes to c = between bytes (c .«known_used») to
+
+pub record Decoded (bytes : Text) (to len : ℕ) (c : Counters) : Type 0 where
+  pub low : c .«known_used» ≤ to
+  pub high : to ≤ c .«known_used» + len
+  pub room : to ≤ 65536
+
+-- the text that is put in a value's place leaves the message short enough, as long as no byte of it is escaped
+pub record Fits (o : Option Text) (len : ℕ) (c : Counters) : Type 0 where
+  pub few : c .size - len + room o ≤ 49152
+
+-- row n of a value with the hash h, of len bytes from index start on, with the action a, was written, which left known′; the rows before it are kept
+pub record RowPut (known : List ℕ) (n h start len : ℕ) (a : HeldAction) (known′ : List ℕ) : Type 0 where
+  pub hashed : getD known′ (n * 8) 0 ≡ h
+  pub starts : getD known′ (n * 8 + 1) 0 ≡ start
+  pub lasts : getD known′ (n * 8 + 2) 0 ≡ len
+  pub acts : actionAt known′ n ≡ a
+  pub kept : (j : ℕ) → j < n * 8 → getD known′ j 0 ≡ getD known j 0

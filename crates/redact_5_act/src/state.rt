@@ -1,0 +1,50 @@
+// What holds for a whole run, and how far it has come.
+use er7::separators::Separators;
+use refusal::Refusal;
+ghost use mathlib.Core.Path.{_≡_};
+ghost use mathlib.Core.Bool.{not};
+ghost use Prim.Native.Nat.{_+_, _-_, _^_, _≤_, _<_};
+ghost use lib.Dec.{ltb};
+
+// What holds for a whole run: the key, the delimiters, whether values are learnt, and how many segments and leaves the message has.
+pub struct Setting {
+    pub key: u64,
+    pub separators: Separators,
+    pub sweep: bool,
+    pub segments: usize,
+    pub leaves: usize,
+}
+
+// How far a run has come: rows and bytes of its report, the message's size, the bytes of the store that are used, the values that are known and their bytes.
+pub struct Counters {
+    pub rows: usize,
+    pub report_len: usize,
+    pub size: usize,
+    pub used: usize,
+    pub known: usize,
+    pub known_used: usize,
+}
+
+// The run goes on, or is refused.
+pub enum Done {
+    Going(Counters),
+    Stopped(Refusal),
+}
+
+// a - b, or 0 where b is more.
+pub fn less(a: usize, b: usize) -> usize
+    ensures { λ r. ⌜ r ≡ a - b ⌝ }
+{
+    if a < b {
+        return 0;
+    }
+    a - b
+}
+
+// Whether a message of size bytes is too long with came bytes in the place of went.
+pub fn is_over(size: usize, went: usize, came: usize) -> bool
+    requires { ⌜ size + came < 2 ^ 64 ⌝ }
+    ensures { λ r. ⌜ r ≡ ltb 49152 (size - went + came) ⌝ }
+{
+    49152 < less(size, went) + came
+}

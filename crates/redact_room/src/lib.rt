@@ -1,2 +1,0 @@
-// Room for a turn of a run.
-pub mod room;

@@ -1,2 +1,0 @@
-// The turns of a run, one behind the other.
-pub mod run;

@@ -1,4 +1,0 @@
-pub mod Funds
-pub mod Idle
-pub mod Turns
-pub mod Skips
