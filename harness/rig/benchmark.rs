@@ -85,6 +85,30 @@ fn times(calls: [&mut dyn FnMut(); 3]) -> [f64; 3] {
     calls.map(|(_, _, least)| least)
 }
 
+/// How many logs a second that many threads redact, each with buffers of its own: the most of nine rounds.
+fn a_second(threads: u32, message: &[u8], policy: &[u8]) -> f64 {
+    let mut buffers: Vec<Buffers> =
+        (0..threads).map(|_| Buffers { output: vec![1; 49_152], report: vec![1; 65_536], scratch: vec![1; 49_152] }).collect();
+    let n = often(&mut || {
+        black_box(buffers[0].port(black_box(message), black_box(policy)));
+    });
+    let mut most: f64 = 0.0;
+    for _ in 0..9 {
+        let start = Instant::now();
+        std::thread::scope(|scope| {
+            for own in &mut buffers {
+                scope.spawn(move || {
+                    for _ in 0..10 * n {
+                        black_box(own.port(black_box(message), black_box(policy)));
+                    }
+                });
+            }
+        });
+        most = most.max(f64::from(10 * n * threads) / start.elapsed().as_secs_f64());
+    }
+    most
+}
+
 struct Times {
     rust: f64,
     port: f64,
@@ -210,12 +234,12 @@ fn main() {
     let (many, reaching) = many_leaves();
     let (swept, sweeping) = swept();
     let cases = [
-        ("a  4 OBX, six-line gym policy", log(4), GYM.to_string(), 0.5),
-        ("b  100 OBX, built-in 2", log(100), builtin(Policy::patient_identifiers()), 0.25),
-        ("c  100 OBX, built-in 1", log(100), builtin(Policy::reject_all()), 0.25),
-        ("d  100 OBX, 40 rules on OBX", log(100), forty(), 0.25),
-        ("e  4,096 leaves, 128 rules", many, reaching, 1.0),
-        ("f  sweep with 512 learnt values", swept, sweeping, 1.0),
+        ("a  4 OBX, six-line gym policy", log(4), GYM.to_string(), 0.30),
+        ("b  100 OBX, built-in 2", log(100), builtin(Policy::patient_identifiers()), 0.10),
+        ("c  100 OBX, built-in 1", log(100), builtin(Policy::reject_all()), 0.18),
+        ("d  100 OBX, 40 rules on OBX", log(100), forty(), 0.12),
+        ("e  4,096 leaves, 128 rules", many, reaching, 0.20),
+        ("f  sweep with 512 learnt values", swept, sweeping, 0.06),
     ];
     println!("{:34}{:>7}{:>7}{:>11}{:>11}{:>8}{:>6}{:>10}{:>12}", "microseconds per call", "bytes", "rows", "Rust", "port", "ratio", "bar", "floor", "port/floor");
     let mut met = 0;
@@ -225,6 +249,10 @@ fn main() {
         met += u32::from(t.port <= bar * t.rust);
     }
     println!("bars: {met} of {} met", cases.len());
+    for (name, message, policy, _) in &cases[..2] {
+        let [one, two] = [1, 2].map(|threads| a_second(threads, message.as_bytes(), policy.as_bytes()));
+        println!("{name}: {one:.0} logs a second on one thread, {two:.0} on two");
+    }
     for (name, policy) in [("gym policy", GYM.to_string()), ("built-in 2", builtin(Policy::patient_identifiers())), ("reject clear", "reject clear\n".to_string())] {
         println!();
         let mut ends = Vec::new();
