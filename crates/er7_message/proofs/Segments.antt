@@ -11,14 +11,15 @@ use borrow.Author.Tests.{le-leb, lt-ltb, ne-eqb}
 use lib.Dec.{eqb, leb}
 use lib.ListN.{length, take, drop, getD, drop-of-length-le, length-take, length-drop}
 use lib.Seq.{drop-drop, drop-cons, getD-take, slice-cons}
-use Rattle.text.specs.Text.{Text, part}
+use Rattle.text.specs.Text.{Text, part, between}
+use Rattle.text.proofs.Kept.{between-is}
 use Rattle.er7.specs.declared.message.Place.{Place}
 use Rattle.er7.specs.declared.separators.Separators.{Separators}
 use Rattle.message_model.specs.Message.{leaf, next, leaves, leavesBehind, atField, leavesOf, separatorsOf, isNamed, count}
 use Rattle.message_model.proofs.Faultless.{named-line}
 use Rattle.er7_table.specs.Table.{cell, listOf, placeAt, leafAt, leavesFrom, Within}
 use Rattle.er7_table.specs.Filling.{LeafPut, SegmentPut, Filled, LeavesRead}
-use Rattle.er7_table.proofs.Laws.{part-is, leaf-kept, place-kept}
+use Rattle.er7_table.proofs.Laws.{leaf-kept, place-kept}
 use Rattle.er7_table.proofs.Reading.{within-next, read-front}
 use Rattle.er7_message.specs.Inner.{line, names, SegmentRead}
 
@@ -81,8 +82,8 @@ module _ (s : Separators) (t : Text) (from end field n : ℕ) (cells : List ℕ)
 -- ---- a line and its name
 
 pub line-from : (t : Text) (i e : ℕ) → line t i e ≡ drop i (take e t)
-unfolding line
-line-from t i e = part-is t i e
+unfolding line part between
+line-from t i e = between-is t i e
 
 pub line-length : (t : Text) (i e : ℕ) → e ≤ length t → length (line t i e) ≡ e - i
 line-length t i e l = ap length (line-from t i e) ∙ simp (length-drop, length-take) (omega arith)

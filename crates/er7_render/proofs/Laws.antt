@@ -11,6 +11,7 @@ use lib.Dec.{eqb, leb}
 use lib.ListN.{length, take, drop, getD, length-append, length-drop}
 use lib.Seq.{length-take-le}
 use Rattle.text.specs.Text.{Text, part, Wrote}
+use Rattle.text.proofs.Kept.{part-length}
 use Rattle.text.proofs.Writes.{wrote-none, wrote-length, wrote-then}
 use Rattle.er7.specs.declared.message.Place.{Place}
 use Rattle.er7.specs.declared.separators.Separators.{Separators}
@@ -72,13 +73,6 @@ module _ {f : ℕ → Text} {first end : ℕ} {d₀ d : Text} {at i k : ℕ} (g 
 
 -- ---- one leaf
 
-pub part-long : (t : Text) (i n : ℕ) → i + n ≤ length t → length (take n (drop i t)) ≡ n
-part-long t i n h = length-take-le n (drop i t) (simp length-drop (omega arith))
-
-part-length : (t : Text) (i n : ℕ) → i + n ≤ length t → length (part t i n) ≡ n
-unfolding part
-part-length t i n h = part-long t i n h
-
 pub part-wrote : (t : Text) (i : ℕ) {d d′ : Text} {k r m n : ℕ} → m ≡ n → Wrote d k (take m (drop i t)) d′ r → Wrote d k (part t i n) d′ r
 unfolding part
 part-wrote t i e w = rw (← e) w
@@ -117,9 +111,10 @@ module _ (s : Separators) (header : Bool) (cells : List ℕ) (store : Text) (i :
     module _ {d d₁ : Text} {at k : ℕ} (w : Wrote d at (lead s (headed header) p) d₁ k) where
       pub text-room : InStore cells store i → at + length (leafText s header cells store i) ≤ length d
           → k + length (take (cell cells i 1 + cell cells i 2 - cell cells i 1) (drop (cell cells i 1) store)) ≤ length d₁
+      unfolding part
       text-room g h =
           let e : cell cells i 1 + cell cells i 2 - cell cells i 1 ≡ cell cells i 2 = omega arith in
-          rw (e, part-long store (cell cells i 1) (cell cells i 2) (g .end)) (omega (arith, leaf-length g, w .end, wrote-length w))
+          rw (e, part-length store (cell cells i 1) (cell cells i 2) (g .end)) (omega (arith, leaf-length g, w .end, wrote-length w))
 
       pub leaf-wrote : {d₂ : Text} {r : ℕ} → Wrote d₁ k (take (cell cells i 1 + cell cells i 2 - cell cells i 1) (drop (cell cells i 1) store)) d₂ r
           → Wrote d at (leafText s header cells store i) d₂ r

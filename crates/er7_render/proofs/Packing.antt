@@ -12,14 +12,14 @@ use lib.Dec.{eqb}
 use lib.ListN.{length, take, drop}
 use lib.Seq.{length-take-le}
 use Rattle.text.specs.Text.{Text, part, Wrote}
+use Rattle.text.proofs.Kept.{part-length, part-kept, wrote-same, wrote-part}
 use Rattle.text.proofs.Writes.{wrote-length}
 use Rattle.message_model.specs.Message.{segment}
 use Rattle.er7_table.specs.Table.{cell, placeAt, textAt, leafAt, leavesFrom, Good, Placed, firstLeaf, labelAt, segmentAt, segmentsFrom, Segmented}
-use Rattle.er7_table.proofs.Laws.{list-ext, part-kept}
 use Rattle.er7_render.specs.Stored.{TextSet, liveLen, liveSum, Packed}
 use Rattle.er7_render.specs.Inner.{InStore, LeafPacked}
-use Rattle.er7_render.proofs.Laws.{part-long, part-wrote}
-use Rattle.er7_render.proofs.Slots.{wrote-front, wrote-part}
+use Rattle.er7_render.proofs.Laws.{part-wrote}
+use Rattle.er7_render.proofs.Sums.{sum-step}
 
 -- ---- one leaf
 
@@ -36,9 +36,10 @@ module _ (cells : List ℕ) (store : Text) (i : ℕ) (g : InStore cells store i)
   live-end = omega (arith, live-most cells i, g .end)
 
   pub copy-room : (at : ℕ) {m : ℕ} → at + liveLen cells i ≤ m → at + length (take (cell cells i 1 + n - cell cells i 1) (drop (cell cells i 1) store)) ≤ m
+  unfolding part
   copy-room at h =
       let q : cell cells i 1 + n - cell cells i 1 ≡ n = omega arith in
-      rw (q, part-long store (cell cells i 1) n live-end) (omega arith)
+      rw (q, part-length store (cell cells i 1) n live-end) (omega arith)
 
   pub leaf-packed : {spare spare′ : Text} {at r : ℕ} {cells′ : List ℕ} → Wrote spare at (take (cell cells i 1 + n - cell cells i 1) (drop (cell cells i 1) store)) spare′ r
       → TextSet cells i at n cells′ → LeafPacked cells store i spare at cells′ spare′ r
@@ -59,8 +60,7 @@ part-front t n = refl
 -- ---- the loop
 
 sum-next : (cells : List ℕ) (i n : ℕ) → i < n → liveSum cells i (n - i) ≡ liveLen cells i + liveSum cells (i + 1) (n - (i + 1))
-unfolding liveSum
-sum-next cells i n h = let q : n - i ≡ suc (n - (i + 1)) = omega arith in rw (q, add-one)
+sum-next cells i n h = rw add-one (sum-step cells i n h)
 
 -- the texts of the first i leaves fill `at` bytes of the spare buffer; the rows from i on are as they were
 pub record Packing (cells : List ℕ) (store : Text) (n i : ℕ) (cells′ : List ℕ) (spare : Text) (at : ℕ) : Type 0 where
@@ -104,7 +104,7 @@ module _ {cells : List ℕ} {store : Text} {n i : ℕ} {cells′ : List ℕ} {sp
     module _ {cells″ : List ℕ} {spare′ : Text} {r : ℕ} (w : LeafPacked cells′ store i spare at cells″ spare′ r) where
       text-long : length (part store (cell cells′ i 1) (liveLen cells′ i)) ≡ liveLen cells′ i
       unfolding part
-      text-long = part-long store (cell cells′ i 1) (liveLen cells′ i) (live-end cells′ store i pack-in-store (liveLen cells′ i) refl)
+      text-long = part-length store (cell cells′ i 1) (liveLen cells′ i) (live-end cells′ store i pack-in-store (liveLen cells′ i) refl)
 
       end-is : r ≡ at + liveLen cells i
       end-is = omega (arith, w .wrote .end, text-long, live-same)
@@ -125,7 +125,7 @@ module _ {cells : List ℕ} {store : Text} {n i : ℕ} {cells′ : List ℕ} {sp
       text-other k x = w .set .other-text spare′ k (λ e. absurd (omega arith)) ∙ over ∙ p .text k x
         where
           over : textAt cells′ spare′ k ≡ textAt cells′ spare k
-          over = text-over cells′ spare spare′ at (wrote-front (w .wrote)) k (p .ends k x)
+          over = text-over cells′ spare spare′ at (wrote-same (w .wrote) .same) k (p .ends k x)
 
       pub pack-next : Packing cells store n (i + 1) cells″ spare′ r
       pack-next = record {
@@ -175,20 +175,3 @@ pack-back {cells} {store} {n} {cells′} {spare} {r} p {old} {store′} {m} w =
       text = t;
       leaf = λ named i h. rw (p .place i, t i h);
     }
-
--- ---- what compacted tables stand for
-
-module _ {cells : List ℕ} {store : Text} {n : ℕ} {cells′ : List ℕ} {store′ : Text} {r : ℕ} (p : Packed cells store n cells′ store′ r) where
-  pub packed-placed : {m : ℕ} → Placed cells n m → Placed cells′ n m
-  packed-placed q = record { within = λ i h. rw (p .place i) (q .within i h) }
-
-  pub packed-leaves : (named : ℕ → Bool) (i m : ℕ) → i + m ≤ n → leavesFrom named cells′ store′ i m ≡ leavesFrom named cells store i m
-  unfolding leavesFrom
-  packed-leaves named i m h = list-ext (leafAt named cells′ store′) (leafAt named cells store) i m (λ k a b. p .leaf named k (omega arith))
-
-  pub packed-segments : (named : ℕ → Bool) (segs : List ℕ) (m : ℕ) → Segmented segs m n → segmentsFrom named segs cells′ store′ 0 m ≡ segmentsFrom named segs cells store 0 m
-  unfolding segmentsFrom segmentAt
-  packed-segments named segs m w =
-      list-ext (segmentAt named segs cells′ store′) (segmentAt named segs cells store) 0 m (λ k a b.
-      ap (segment (labelAt segs k)) (packed-leaves named (firstLeaf segs k) (firstLeaf segs (k + 1) - firstLeaf segs k)
-      (omega (arith, w .order k (k + 1) (omega arith) (omega arith), w .order (k + 1) m (omega arith) (omega arith), w .all))))

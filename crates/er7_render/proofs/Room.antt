@@ -9,10 +9,10 @@ use borrow.Rule.Slice.PartMut.{putMid, take-put, same-len-mid}
 use lib.Dec.{eqb}
 use lib.ListN.{length, take, drop}
 use Rattle.text.specs.Text.{Text, part, SameTo}
-use Rattle.text.proofs.Kept.{same-all}
+use Rattle.text.proofs.Kept.{part-length, same-all}
 use Rattle.er7_table.specs.Table.{cell, textAt, Good}
 use Rattle.er7_render.specs.Stored.{liveLen, liveSum, Packed, RoomMade}
-use Rattle.er7_render.proofs.Laws.{part-long}
+use Rattle.er7_render.proofs.Sums.{sum-same}
 
 -- ---- the length of a leaf's text
 
@@ -27,7 +27,7 @@ module _ {cells : List ℕ} {store : Text} {n used : ℕ} (g : Good cells store 
   live-text i h = go (eqb (cell cells i 3) 0)
     where
       go : (b : Bool) → cond b (cell cells i 2) 0 ≡ textLong (cond b (some (part store (cell cells i 1) (cell cells i 2))) none)
-      go true = sym (part-long store (cell cells i 1) (cell cells i 2) (omega (arith, g .ends i h, g .room)))
+      go true = sym (part-length store (cell cells i 1) (cell cells i 2) (omega (arith, g .ends i h, g .room)))
       go false = refl
 
 -- ---- the buffer beside the store
@@ -40,7 +40,7 @@ same-part k d e h l = record { long = same-len-mid k (length d - k) d e l; same 
 
 module _ {n : ℕ} {cells : List ℕ} {store : Text} {used : ℕ} (g : Good cells store n used) where
   -- there was room
-  pub room-there : used ≤ 49152 → (bytes : Text) (from : ℕ) → RoomMade n cells store used bytes from cells store bytes used
+  pub room-there : used ≤ 49152 → (bytes : Text) (from : ℕ) → RoomMade n cells store bytes from cells store bytes used
   room-there h bytes from = record {
     good = g;
     ample = h;
@@ -53,7 +53,7 @@ module _ {n : ℕ} {cells : List ℕ} {store : Text} {used : ℕ} (g : Good cell
 
   -- the texts were moved together
   pub room-packed : {cells′ : List ℕ} {store′ bytes bytes′ : Text} {from r : ℕ} → liveSum cells 0 n ≤ 49152
-      → Packed cells store n cells′ store′ r × SameTo from bytes bytes′ → RoomMade n cells store used bytes from cells′ store′ bytes′ r
+      → Packed cells store n cells′ store′ r × SameTo from bytes bytes′ → RoomMade n cells store bytes from cells′ store′ bytes′ r
   room-packed few p = record {
     good = p .0 .good;
     ample = omega (arith, p .0 .size);
@@ -66,12 +66,6 @@ module _ {n : ℕ} {cells : List ℕ} {store : Text} {used : ℕ} (g : Good cell
 
 -- ---- what room is good for
 
-pub sum-same : (cells cells′ : List ℕ) (i k : ℕ) → ((j : ℕ) → i ≤ j → j < i + k → liveLen cells′ j ≡ liveLen cells j) → liveSum cells′ i k ≡ liveSum cells i k
-unfolding liveSum
-sum-same cells cells′ i zero h = refl
-sum-same cells cells′ i (suc k) h =
-    rw (h i (omega arith) (omega arith), sum-same cells cells′ (suc i) k (λ j a b. h j (omega arith) (omega arith)))
-
-pub room-sum : {n : ℕ} {cells : List ℕ} {store : Text} {used : ℕ} {bytes : Text} {from : ℕ} {cells′ : List ℕ} {store′ bytes′ : Text} {r : ℕ}
-    → RoomMade n cells store used bytes from cells′ store′ bytes′ r → liveSum cells′ 0 n ≡ liveSum cells 0 n
-room-sum {n} {cells} {store} {used} {bytes} {from} {cells′} w = sum-same cells cells′ 0 n (λ j a b. w .live j (omega arith))
+pub room-sum : {n : ℕ} {cells : List ℕ} {store bytes : Text} {from : ℕ} {cells′ : List ℕ} {store′ bytes′ : Text} {r : ℕ}
+    → RoomMade n cells store bytes from cells′ store′ bytes′ r → liveSum cells′ 0 n ≡ liveSum cells 0 n
+room-sum {n} {cells} {store} {bytes} {from} {cells′} w = sum-same cells cells′ 0 n (λ j a b. w .live j (omega arith))

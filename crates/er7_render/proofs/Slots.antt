@@ -11,10 +11,10 @@ use borrow.Author.Tests.{eqb-true}
 use lib.Dec.{eqb}
 use lib.ListN.{length, take, drop, set, length-set}
 use lib.Seq.{getD-set-same, getD-set-other, take-at, drop-at, length-take-le}
-use Rattle.text.specs.Text.{Text, part, put, Wrote}
-use Rattle.text.proofs.Writes.{wrote-length}
-use Rattle.er7_table.specs.Table.{cell, placeAt, textAt, leafAt, Good, Placed}
-use Rattle.er7_table.proofs.Laws.{part-kept, leaf-kept, leaf-over}
+use Rattle.text.specs.Text.{Text, part, SameTo}
+use Rattle.text.proofs.Kept.{part-same}
+use Rattle.er7_table.specs.Table.{cell, placeAt, textAt, leafAt, Good}
+use Rattle.er7_table.proofs.Laws.{leaf-kept}
 use Rattle.er7_render.specs.Stored.{TextSet, Vanished}
 
 -- ---- one column of a row
@@ -129,48 +129,12 @@ module _ {cells : List ℕ} {store : Text} {n used : ℕ} (g : Good cells store 
   pub gone-good : Vanished cells i cells′ → Good cells′ store n used
   gone-good w = record { rows = rw (w .rows) (g .rows); room = g .room; ends = λ j h. rw (w .begins j, w .long j) (g .ends j h) }
 
-module _ {cells : List ℕ} {n m : ℕ} (p : Placed cells n m) {i : ℕ} {cells′ : List ℕ} where
-  pub set-placed : {start len : ℕ} → TextSet cells i start len cells′ → Placed cells′ n m
-  set-placed w = record { within = λ j h. rw (w .place j) (p .within j h) }
+-- ---- where what stands behind the texts changed
 
-  pub gone-placed : Vanished cells i cells′ → Placed cells′ n m
-  gone-placed w = record { within = λ j h. rw (w .place j) (p .within j h) }
-
--- ---- what is written
-
-module _ {d d′ w : Text} {at r : ℕ} (p : Wrote d at w d′ r) where
-  front-long : length (take at d) ≡ at
-  front-long = length-take-le at d (omega (arith, p .end, p .high))
-
-  pub wrote-front : take at d′ ≡ take at d
-  unfolding put
-  wrote-front = rw (p .text, append-assoc (take at d) w (drop (at + length w) d)) (take-at (take at d) _ at front-long)
-
-  pub wrote-part : part d′ at (length w) ≡ w
-  unfolding put part
-  wrote-part =
-      rw (p .text, append-assoc (take at d) w (drop (at + length w) d), drop-at (take at d) (w ++ drop (at + length w) d) at front-long)
-      (take-at w (drop (at + length w) d) (length w) refl)
-
--- a text that is written behind `used` changes no leaf
-module _ {cells : List ℕ} {store store′ w : Text} {n used r : ℕ} (g : Good cells store n used) (p : Wrote store used w store′ r) where
-  pub behind-leaf : (named : ℕ → Bool) (j : ℕ) → j < n → leafAt named cells store′ j ≡ leafAt named cells store j
-  behind-leaf named j h = leaf-over named cells store store′ g (wrote-front p) j h
-
-  pub behind-text : (j : ℕ) → j < n → textAt cells store′ j ≡ textAt cells store j
+module _ {cells : List ℕ} {store store′ : Text} {n used : ℕ} (g : Good cells store n used) (k : SameTo used store store′) where
+  pub kept-text : (j : ℕ) → j < n → textAt cells store′ j ≡ textAt cells store j
   unfolding textAt
-  behind-text j h = rw (part-kept store store′ used (wrote-front p) (cell cells j 1) (cell cells j 2) (g .ends j h))
+  kept-text j h = rw (part-same k (cell cells j 1) (cell cells j 2) (g .ends j h))
 
-  pub behind-good : Good cells store′ n r
-  behind-good = record { rows = g .rows; room = omega (arith, p .high, wrote-length p); ends = λ j h. omega (arith, g .ends j h, p .end) }
-
-  -- it becomes the text of leaf i
-  module _ {i : ℕ} {cells′ : List ℕ} (v : TextSet cells i used (length w) cells′) where
-    pub changed-text : cell cells i 3 ≡ 0 → textAt cells′ store′ i ≡ some w
-    changed-text e = v .here store′ e ∙ ap (λ (t : Text). some t) (wrote-part p)
-
-    pub changed-other : (named : ℕ → Bool) (j : ℕ) → j < n → (j ≡ i → ⊥) → leafAt named cells′ store′ j ≡ leafAt named cells store j
-    changed-other named j h ne = v .other-leaf named store′ j ne ∙ behind-leaf named j h
-
-    pub changed-good : Good cells′ store′ n r
-    changed-good = set-good behind-good v (omega arith) (omega (arith, p .end)) (behind-good .room)
+  pub kept-good : Good cells store′ n used
+  kept-good = record { rows = g .rows; room = rw (k .long) (g .room); ends = g .ends }

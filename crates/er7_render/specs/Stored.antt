@@ -57,7 +57,7 @@ pub record Packed (cells : List ℕ) (store : Text) (n : ℕ) (cells′ : List �
 
 -- the n leaves are as they were, and their texts stand in the first r bytes of the store, behind which it has room for the longest message;
 -- the first `from` bytes of the buffer beside it are kept
-pub record RoomMade (n : ℕ) (cells : List ℕ) (store : Text) (used : ℕ) (bytes : Text) (from : ℕ) (cells′ : List ℕ) (store′ bytes′ : Text) (r : ℕ) : Type 0 where
+pub record RoomMade (n : ℕ) (cells : List ℕ) (store bytes : Text) (from : ℕ) (cells′ : List ℕ) (store′ bytes′ : Text) (r : ℕ) : Type 0 where
   pub good : Good cells′ store′ n r
   pub ample : r ≤ 49152
   pub leaf : (named : ℕ → Bool) (i : ℕ) → i < n → leafAt named cells′ store′ i ≡ leafAt named cells store i

@@ -108,7 +108,7 @@ pub fn make_room(
     used: usize,
 ) -> usize
     requires { ⌜ Good (now cells) (now store) n used × (liveSum (now cells) 0 n ≤ 49152) × (from ≤ 16384) ⌝ }
-    ensures { λ r. ⌜ RoomMade n (now (cells .entry)) (now (store .entry)) used (now (bytes .entry)) from (now (cells .exit)) (now (store .exit)) (now (bytes .exit)) r ⌝ }
+    ensures { λ r. ⌜ RoomMade n (now (cells .entry)) (now (store .entry)) (now (bytes .entry)) from (now (cells .exit)) (now (store .exit)) (now (bytes .exit)) r ⌝ }
 {
     if used <= 49152 {
         return used;

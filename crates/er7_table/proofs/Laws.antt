@@ -8,6 +8,7 @@ use native.Mathlib.Omega.{arith}
 use lib.ListN.{length, take, drop}
 use lib.Seq.{take-all, take-take, take-nil}
 use Rattle.text.specs.Text.{Text, part}
+use Rattle.text.proofs.Kept.{part-kept}
 use Rattle.message_model.specs.Message.{segment}
 use Rattle.er7_table.specs.Table.{cell, listOf, placeAt, textAt, leafAt, leavesFrom, Good, firstLeaf, nameAt, labelAt, segmentAt, segmentsFrom, Segmented}
 
@@ -42,21 +43,6 @@ module _ {A : Type 0} where
 -- ---- parts of a text
 
 -- the part of t from index i to index e
-pub part-is : (t : Text) (i e : ℕ) → part t i (e - i) ≡ drop i (take e t)
-unfolding part
-part-is t zero e = let z : e - 0 ≡ e = omega arith in rw z
-part-is [] (suc i) e = take-nil (e - suc i) ∙ sym (ap (drop (suc i)) (take-nil e))
-part-is (x ∷ t) (suc i) zero = let z : 0 - suc i ≡ 0 = omega arith in rw z
-part-is (x ∷ t) (suc i) (suc e) = let z : suc e - suc i ≡ e - i = omega arith in rw z (part-is t i e)
-
-pub part-take : (t : Text) (e i n : ℕ) → i + n ≤ e → part (take e t) i n ≡ part t i n
-unfolding part
-part-take t e i n h = ap (take n) (sym (part-is t i e)) ∙ take-take n (e - i) (drop i t) (omega arith)
-
--- a part that ends at or before e is the same in a text that begins alike
-pub part-kept : (t t′ : Text) (e : ℕ) → take e t′ ≡ take e t → (i n : ℕ) → i + n ≤ e → part t′ i n ≡ part t i n
-part-kept t t′ e q i n h = sym (part-take t′ e i n h) ∙ ap (λ (w : Text). part w i n) q ∙ part-take t e i n h
-
 -- ---- what rows that did not change stand for
 
 pub place-kept : (cells cells′ : List ℕ) (i : ℕ) → ((k : ℕ) → k < 8 → cell cells′ i k ≡ cell cells i k) → placeAt cells′ i ≡ placeAt cells i

@@ -12,6 +12,7 @@ use lib.Dec.{eqb}
 use lib.ListN.{length, take, drop, getD, length-append, drop-of-length-le}
 use lib.Seq.{append-snoc, length-take-le}
 use Rattle.text.specs.Text.{Text, part}
+use Rattle.text.proofs.Kept.{part-take}
 use Rattle.text.proofs.Laws.{by-cond}
 use Rattle.text.proofs.Runs.{drop-step, part-more}
 use Rattle.er7.specs.declared.message.Place.{Place}
@@ -19,7 +20,7 @@ use Rattle.er7.specs.declared.separators.Separators.{Separators}
 use Rattle.message_model.specs.Message.{Leaf, leaf, endsLeaf, next, leaves}
 use Rattle.er7_table.specs.Table.{cell, listOf, placeAt, textAt, leafAt, leavesFrom, Within}
 use Rattle.er7_table.specs.Filling.{LeafEnd, LeafPut, LeavesRead}
-use Rattle.er7_table.proofs.Laws.{list-snoc, list-ext, list-length, part-take, leaves-kept, place-kept}
+use Rattle.er7_table.proofs.Laws.{list-snoc, list-ext, list-length, leaves-kept, place-kept}
 
 -- ---- `next`, case by case
 module _ (s : Separators) (x : ℕ) (p : Place) where

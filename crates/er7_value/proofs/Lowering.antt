@@ -6,7 +6,8 @@ use native.Mathlib.Nat.{sub-self}
 use native.Mathlib.Omega.{arith}
 use lib.ListN.{length, take, drop, getD, set, length-append, length-take, length-set}
 use lib.Seq.{take-at, drop-at, getD-at, length-take-le}
-use Rattle.text.specs.Text.{Text, lowerByte, lower, part, put, Wrote}
+use Rattle.text.specs.Text.{Text, lowerByte, lower, part, between, put, Wrote}
+use Rattle.text.proofs.Kept.{wrote-between}
 use Rattle.text.proofs.Runs.{drop-step, part-more}
 use Rattle.text.proofs.Writes.{wrote-none, wrote-byte, wrote-then}
 
@@ -23,12 +24,6 @@ module _ {d d′ w : Text} {at e : ℕ} (p : Wrote d at w d′ e) where
   pub behind-kept : e < length d → getD d′ e 0 ≡ getD d e 0
   unfolding put
   behind-kept h = rw (p .text, ← p .end, drop-step d e h) (getD-at (take at d ++ w) (getD d e 0) (drop (e + 1) d) 0 e front-length)
-
-  pub wrote-part : part d′ at (e - at) ≡ w
-  unfolding put part
-  wrote-part =
-      rw (p .text, append-assoc, drop-at (take at d) (w ++ drop (at + length w) d) at (length-take-le at d (omega (arith, p .end, p .high))))
-      (take-at w (drop (at + length w) d) (e - at) (omega (arith, p .end)))
 
   -- a second text of the same length in the place of the first
   pub wrote-over : {d″ v : Text} → Wrote d′ at v d″ e → Wrote d at v d″ e
@@ -67,4 +62,5 @@ lowering-end {d₀} {d} {i} {j} e g q = rw (← q) (g .wrote)
 
 -- what was written, in lower case
 pub wrote-lower : {d d₁ d₂ v : Text} {at e : ℕ} → Wrote d at v d₁ e → Wrote d₁ at (lower (part d₁ at (e - at))) d₂ e → Wrote d at (lower v) d₂ e
-wrote-lower {d} {d₁} {d₂} {v} {at} {e} p q = wrote-over p (rw (← wrote-part p) q)
+unfolding between part
+wrote-lower {d} {d₁} {d₂} {v} {at} {e} p q = wrote-over p (rw (← wrote-between p) q)

@@ -31,7 +31,7 @@ use Rattle.er7_message.specs.declared.message.Counts.{Counts}
 use Rattle.er7_message.specs.declared.message.ParsedMessage.{ParsedMessage}
 use Rattle.er7_message.specs.declared.message.ParsedMessage.the-variants as Parsed
 use Rattle.er7_render.proofs.PrintBack.{parsed-named}
-use Rattle.er7_render.proofs.Slots.{wrote-part}
+use Rattle.text.proofs.Kept.{wrote-part}
 use Rattle.redact_1_run.specs.declared.core.Redacted.{Redacted}
 use Rattle.redact_1_run.specs.declared.core.Redacted.the-variants as Run
 use Rattle.redact_1_run.specs.Ran.{Loaded, AnyLoaded, Left, RedactedIs}
@@ -93,7 +93,7 @@ module _ (key : ℕ) (P : Policy) (message : Text) (f : messageFault message ≡
   unfolding withoutFault reported
   run-refused b {x} e =
       let q : RedactedIs (redactFrom (length message) key P (messageOf message)) output output′ report′ (Run.Refused x) = rw e at g in
-      record { out = rw (f, ← alone key P message f, q .out) }
+      record { out = rw (f, ← alone key P message f, q .out .0) }
 
   module _ {n k m : ℕ} (e : r ≡ Run.Redacted n k m) where
     left : Left (redactFrom (length message) key P (messageOf message)) n k m output output′ report′

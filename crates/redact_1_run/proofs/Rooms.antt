@@ -16,6 +16,7 @@ use Rattle.run_model.proofs.Sizes.{textSize, leafSize, leaf-size}
 use Rattle.er7_table.specs.Table.{listOf, placeAt, textAt, leafAt, firstLeaf, labelAt, Good, Segmented}
 use Rattle.er7_table.proofs.Laws.{list-ext}
 use Rattle.er7_render.specs.Stored.{liveLen, liveSum, RoomMade}
+use Rattle.er7_render.proofs.Sums.{sum-parts}
 use Rattle.er7_render.proofs.Room.{textLong, live-text, room-sum}
 use Rattle.redact_4_leaf.specs.Walk.{Pass, segmentOf}
 use Rattle.redact_5_act.specs.declared.state.Setting.{Setting}
@@ -33,8 +34,8 @@ use Rattle.redact_1_run.specs.Stage.{Poised, PoisedOr, RoomFor, MadeRoom
 
 -- ---- what room is good for
 
-module _ {n : ℕ} {cells : List ℕ} {store : Text} {used : ℕ} {bytes : Text} {from : ℕ} {cells′ : List ℕ} {store′ bytes′ : Text} {r : ℕ}
-    (w : RoomMade n cells store used bytes from cells′ store′ bytes′ r) where
+module _ {n : ℕ} {cells : List ℕ} {store bytes : Text} {from : ℕ} {cells′ : List ℕ} {store′ bytes′ : Text} {r : ℕ}
+    (w : RoomMade n cells store bytes from cells′ store′ bytes′ r) where
   -- a turn may begin
   pub room-funded : (c : Counters) → c .used ≡ r → liveSum cells 0 n ≤ c .size → c .size ≤ 49152 → n ≤ 4096 → c .rows ≤ 2 ^ 30 → c .«report_len» ≤ 2 ^ 46
       → (node : Bool) → Funded node cells′ 0 n c
@@ -65,15 +66,6 @@ module _ {n : ℕ} {cells : List ℕ} {store : Text} {used : ℕ} {bytes : Text}
 text-size : (o : Option Text) → textLong o ≡ textSize 0 o
 text-size none = refl
 text-size (some t) = omega arith
-
--- the texts of two runs of leaves
-sum-append : (cells : List ℕ) (i a b : ℕ) → liveSum cells i (a + b) ≡ liveSum cells i a + liveSum cells (i + a) b
-unfolding liveSum
-sum-append cells i zero b = let e : 0 + b ≡ b = omega arith in rw (e, add-zero) (omega arith)
-sum-append cells i (suc a) b =
-    let e : suc a + b ≡ suc (a + b) = omega arith in
-    let f : i + suc a ≡ suc i + a = omega arith in
-    rw (e, f) (omega (arith, sum-append cells (suc i) a b))
 
 text-most : (k : ℕ) (o : Option Text) → textSize 0 o ≤ textSize k o
 text-most k none = omega arith
@@ -108,9 +100,7 @@ module _ (s : Separators) (cr : Bool) (named : ℕ → Bool) {cells : List ℕ} 
     segments-live k (suc j) e =
         let a = up k (suc k) (omega arith) (omega arith) in
         let b = up (suc k) m (omega arith) (omega arith) in
-        let f : firsts (suc k) - firsts k + (n - firsts (suc k)) ≡ n - firsts k = omega (arith, a, b, all) in
-        let h : firsts k + (firsts (suc k) - firsts k) ≡ firsts (suc k) = omega (arith, a) in
-        let p = rw (f, h) at (sum-append cells (firsts k) (firsts (suc k) - firsts k) (n - firsts (suc k))) in
+        let p = sum-parts cells (firsts k) (firsts (suc k)) n a (omega (arith, b, all)) in
         omega (
           arith,
           p,

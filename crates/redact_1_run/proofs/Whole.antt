@@ -21,7 +21,7 @@ use Rattle.er7_message.specs.declared.message.ParsedMessage.the-variants.{Read}
 use Rattle.er7_message.proofs.Parsing.{standing-over}
 use Rattle.er7_render.specs.Rendered.{rendered}
 use Rattle.er7_render.proofs.Laws.{rendered-named}
-use Rattle.er7_render.proofs.Slots.{wrote-part}
+use Rattle.text.proofs.Kept.{wrote-part}
 use Rattle.redact_6_row.proofs.Rows.{reported-none}
 use Rattle.redact_5_act.specs.Known.{knownFrom, GoodKnown}
 use Rattle.redact_5_act.specs.declared.state.Setting.{Setting}
@@ -197,9 +197,9 @@ module _ (key : ℕ) (sweep : Bool) (P : Policy) {message : Text} {m : Message} 
       reported = last-stage .books .reported;
     }
 
-  pub end-refused : {e : Refusal} → r ≡ Stopped e → (output output′ report′ : Text) → RedactedIs (redactFrom size key P m) output output′ report′ (Refused e)
+  pub end-refused : {e : Refusal} → r ≡ Stopped e → (output report′ : Text) → RedactedIs (redactFrom size key P m) output output report′ (Refused e)
   unfolding redactedAs
-  end-refused q output output′ report′ = let s = rw q at last-stands in record { out = run-is ∙ rw (s .out) }
+  end-refused q output report′ = let s = rw q at last-stands in record { out = (run-is ∙ rw (s .out), refl) }
 
 -- ---- `print_text`
 

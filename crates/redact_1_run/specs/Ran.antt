@@ -49,7 +49,7 @@ pub record Ran (d : R.Redacted) (counts : Counts) (segs cells : List ℕ) (store
   pub count : c .rows ≡ length rows
   pub reported : Reported report (c .«report_len») rows
 
--- the text stands at the front of the output, if there is room for it, and the rows at that of the report
+-- the text stands at the front of the output, if there is room for it, and the rows at that of the report; after a refusal the output is as it was
 pub record Left (d : R.Redacted) (n k m : ℕ) (output output′ report′ : Text) : Type 0 where
   pub text : Text
   pub rows : List Row
@@ -62,7 +62,7 @@ pub record Left (d : R.Redacted) (n k m : ℕ) (output output′ report′ : Tex
 
 abbrev pub LeftOr : R.Redacted → Text → Text → Text → Redacted → Type 0
 LeftOr d output output′ report′ (Whole n k m) = Left d n k m output output′ report′
-LeftOr d output output′ report′ (Refused e) = d ≡ R.refused e
+LeftOr d output output′ report′ (Refused e) = (d ≡ R.refused e) × (output′ ≡ output)
 
 pub record RedactedIs (d : R.Redacted) (output output′ report′ : Text) (r : Redacted) : Type 0 where
   pub out : LeftOr d output output′ report′ r

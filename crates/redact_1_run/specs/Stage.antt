@@ -80,7 +80,7 @@ pub record RoomFor (n : ℕ) (cells : List ℕ) (store : Text) (c : Counters) : 
 
 -- room was made in the store, with work behind the learnt values; no other counter changed
 pub record MadeRoom (n : ℕ) (cells : List ℕ) (store bytes : Text) (c : Counters) (cells′ : List ℕ) (store′ bytes′ : Text) (r : Counters) : Type 0 where
-  pub room : RoomMade n cells store (c .used) bytes (c .«known_used») cells′ store′ bytes′ (r .used)
+  pub room : RoomMade n cells store bytes (c .«known_used») cells′ store′ bytes′ (r .used)
   pub rows : r .rows ≡ c .rows
   pub report : r .«report_len» ≡ c .«report_len»
   pub size : r .size ≡ c .size

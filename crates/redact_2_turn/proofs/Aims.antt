@@ -8,7 +8,7 @@ use borrow.Author.Tests.{eqb-true, eqb-false}
 use lib.Dec.{eqb}
 use lib.ListN.{length, getD}
 use Rattle.text.specs.Text.{Text, same, part}
-use Rattle.text.proofs.Laws.{clash, and-false, and-left, and-right}
+use Rattle.text.proofs.Laws.{and-false, and-id, and-left, and-right}
 use Rattle.text.proofs.Runs.{drop-step}
 use Rattle.text.proofs.Kept.{part-length}
 use Rattle.er7.specs.Path.{asPath, PathHeld}
@@ -23,10 +23,6 @@ use Rattle.redact_6_row.specs.Reach.{reachesPlace}
 use Rattle.redact_6_row.proofs.Reaches.{covers-steps}
 use Rattle.redact_2_turn.specs.Turn.{noPath, nameByte, aimAt, aimUnnamed, enters, isTouched, works}
 use Rattle.redact_2_turn.specs.declared.turn.Aim.{Aim}
-
-and-true : (b : Bool) → b && true ≡ b
-and-true true = refl
-and-true false = refl
 
 -- ---- a name of three bytes
 
@@ -61,11 +57,11 @@ module _ (t : Text) (w : HeldPath) (h : PathHeld t w) (g : Label) {x y z : ℕ} 
 
 pub works-rule : (t : Text) (w : HeldPath) (g : Label) (named : Bool) (cells : List ℕ) (i : ℕ) → works (aimAt t w) g named cells i ≡ isTouched g cells i && reachesPlace (asPath [] w) (placeAt cells i)
 unfolding works aimAt
-works-rule t w g named cells i = and-true _ ∙ and-true _
+works-rule t w g named cells i = and-id _ ∙ and-id _
 
 pub works-unnamed : (every empty : Bool) (g : Label) (named : Bool) (cells : List ℕ) (i : ℕ) → works (aimUnnamed every empty) g named cells i ≡ isTouched g cells i && not named && (empty || not (eqb (cell cells i 2) 0))
 unfolding works aimUnnamed noPath reachesPlace asPath fits
-works-unnamed every empty g named cells i = rw (and-true (isTouched g cells i))
+works-unnamed every empty g named cells i = rw (and-id (isTouched g cells i))
 
 -- a rule covers a leaf with which its aim has to do
 module _ (t : Text) (r : HeldRule) (g : Label) (p : Place) where
@@ -109,6 +105,6 @@ unfolding enters labelAt nameAt same
 enters-is aim segs k {f} e = rw e (ap (λ b. aim .every || (aim .some && b && fits (aim .path .«segment_occurrence») (cell segs k 5))) (go (eqb (aim .a) (cell segs k 2)) (eqb (aim .b) (cell segs k 3)) (eqb (aim .c) (cell segs k 4))))
   where
     go : (a b c : Bool) → a && b && c ≡ a && (b && (c && true))
-    go true true c = sym (and-true c)
+    go true true c = sym (and-id c)
     go true false c = refl
     go false b c = refl

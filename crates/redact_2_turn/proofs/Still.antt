@@ -8,7 +8,7 @@ use borrow.Author.Tests.{eqb-true, not-false}
 use lib.Dec.{eqb}
 use lib.ListN.{take}
 use Rattle.text.specs.Text.{Text, part, isEmpty}
-use Rattle.text.proofs.Laws.{clash}
+use Rattle.text.proofs.Laws.{clash, or-id}
 use Rattle.er7.specs.Path.{asPath, PathHeld}
 use Rattle.er7.specs.declared.message.Place.{Place}
 use Rattle.er7.specs.declared.separators.Separators.{Separators}
@@ -35,10 +35,6 @@ pub record Still (P : Pass) (g : Label) (x : Leaf) (xs : List Leaf) : Type 0 whe
   pub same : P .leaf g x xs ≡ x
   pub silent : P .says g x xs ≡ []
 
-or-none : (a : Bool) → a || false ≡ a
-or-none true = refl
-or-none false = refl
-
 -- ---- a rule: what has vanished, and what it does not cover
 
 module _ (key : ℕ) (s : Separators) (r : Rule) (g : Label) (p : Place) (b : Bool) where
@@ -49,7 +45,7 @@ module _ (key : ℕ) (s : Separators) (r : Rule) (g : Label) (p : Place) (b : Bo
   pub uncovered : (o : Option Text) (xs : List Leaf) → covers r g p ≡ false → Still (rulePass key s r) g (leaf p b o) xs
   unfolding rulePass ruleLeaf ruleEvents fate after changing
   uncovered none xs e = record { same = refl; silent = refl }
-  uncovered (some t) xs e = record { same = rw (e, or-none b); silent = rw e }
+  uncovered (some t) xs e = record { same = rw (e, or-id b); silent = rw e }
 
 -- ---- a pass over unnamed leaves: what has vanished, what is named or may not be touched, and what has no action or one that leaves it
 

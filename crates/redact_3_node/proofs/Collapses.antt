@@ -15,6 +15,7 @@ use Rattle.message_model.specs.Value.{NULL, isNull}
 use Rattle.run_model.specs.Redact.{Reach, Event, stays, becomes, collapse, size, Row}
 use Rattle.er7_table.specs.Table.{cell}
 use Rattle.er7_render.specs.Stored.{liveSum}
+use Rattle.er7_render.proofs.Sums.{sum-step, sum-parts, sum-each}
 use Rattle.redact_5_act.specs.Act.{Became, Acted}
 use Rattle.redact_5_act.specs.declared.act.Fate.{Fate as HeldFate}
 use Rattle.redact_5_act.specs.declared.act.Fate.the-variants.{Stays, Becomes, TooLong}
@@ -25,7 +26,7 @@ use Rattle.redact_4_leaf.specs.State.{textOf, Entered, Learning, NodeReady, Cha
 use Rattle.redact_4_leaf.proofs.Acting.{node-live, stayed, entered, overran}
 use Rattle.redact_4_leaf.proofs.Rules.{learnt-going}
 use Rattle.redact_3_node.specs.Node.{nodeEnd, AllLegible, liveTexts, leafSize, leavesSize, already}
-use Rattle.redact_3_node.proofs.Nodes.{end-low, end-high, size-live, nil-live, sum-step, sum-more, sum-each, leaves-most}
+use Rattle.redact_3_node.proofs.Nodes.{end-low, end-high, size-live, nil-live, leaves-most}
 
 -- ---- whether the node is already one null leaf, and the bytes that go
 
@@ -89,7 +90,7 @@ ready-node r {cells} {i = i} {end = end} {e = e} g l =
       ends = omega (arith, l, k, g .ends, g .inside);
       good = g .good;
       live = g .live;
-      texts = omega (arith, sum-more cells i (e - i) (end - i) (omega (arith, l, k, g .inside)), g .texts);
+      texts = omega (arith, sum-parts cells i e end (omega (arith, l, h)) (omega (arith, l, k, g .inside)), g .texts);
       most = g .most;
       room = g .room;
       rows = g .rows;

@@ -7,7 +7,7 @@ use Prim.Native.Nat.{ℕ, suc, _+_, _-_, _≤_, _<_}
 use native.Mathlib.Omega.{arith}
 use borrow.Author.Tests.{eq-eqb, not-true, not-false}
 use Rattle.text.specs.Text.{Text}
-use Rattle.text.proofs.Laws.{clash}
+use Rattle.text.proofs.Laws.{clash, or-id}
 use Rattle.text.proofs.Kept.{same-all}
 use Rattle.er7.specs.declared.message.Place.{Place}
 use Rattle.er7.specs.declared.separators.Separators.{Separators}
@@ -19,6 +19,7 @@ use Rattle.run_model.specs.Redact.{Reach, each-leaf, each-node, Depth, reach, i
 use Rattle.er7_table.specs.Table.{cell, listOf, placeAt, leafAt, asLabel, Good}
 use Rattle.er7_render.specs.Stored.{Vanished}
 use Rattle.er7_render.proofs.Slots.{gone-good}
+use Rattle.er7_render.proofs.Sums.{lens-kept}
 use Rattle.redact_6_row.specs.Reach.{startsAt}
 use Rattle.redact_5_act.specs.declared.state.Setting.{Setting}
 use Rattle.redact_5_act.specs.declared.state.Counters.{Counters}
@@ -31,11 +32,7 @@ use Rattle.redact_4_leaf.proofs.Acting.{live-text, node-live}
 use Rattle.redact_4_leaf.proofs.Rules.{learnt-going, learnt-stopped}
 use Rattle.redact_4_leaf.proofs.Visits.{Seen, seen-visit, seen-full}
 use Rattle.redact_3_node.specs.Node.{nodeEnd, liveTexts, already}
-use Rattle.redact_3_node.proofs.Nodes.{lens-kept, rest-live, end-low, live-here}
-
-or-false : (b : Bool) → b || false ≡ b
-or-false true = refl
-or-false false = refl
+use Rattle.redact_3_node.proofs.Nodes.{rest-live, end-low, live-here}
 
 -- ---- what the rule does to a leaf and says of it
 
@@ -43,7 +40,7 @@ module _ (key : ℕ) (s : Separators) (r : Rule) (g : Label) (d : Depth) (q : ea
   -- of a node's leaves the others vanish
   inner-leaf : starts d p ≡ false → ruleLeaf key s r g (leaf p b (some t)) xs ≡ leaf p b none
   unfolding ruleLeaf fate fateIn isNode collapse after
-  inner-leaf h = rw (e, ← q, h, or-false b)
+  inner-leaf h = rw (e, ← q, h, or-id b)
 
   inner-says : starts d p ≡ false → ruleEvents key s r g (leaf p b (some t)) xs ≡ []
   unfolding ruleEvents fate fateIn took collapse changing learning
@@ -52,7 +49,7 @@ module _ (key : ℕ) (s : Separators) (r : Rule) (g : Label) (d : Depth) (q : ea
   -- and the first one collapses
   first-leaf : starts d p ≡ true → ruleLeaf key s r g (leaf p b (some t)) xs ≡ leaf p b (after (collapse true (isNull t && isNil (restOfNode d xs))) t)
   unfolding ruleLeaf fate fateIn isNode
-  first-leaf h = rw (e, ← q, h, or-false b)
+  first-leaf h = rw (e, ← q, h, or-id b)
 
   first-says : starts d p ≡ true → ruleEvents key s r g (leaf p b (some t)) xs
       ≡ learning s (r .action) (t ∷ restOfNode d xs)

@@ -18,6 +18,7 @@ use Rattle.er7_table.specs.Table.{cell, listOf, placeAt, textAt, leafAt, Good}
 use Rattle.er7_render.specs.Stored.{liveLen, liveSum}
 use Rattle.redact_6_row.specs.Reach.{startsAt}
 use Rattle.redact_4_leaf.specs.State.{textOf}
+use Rattle.redact_4_leaf.proofs.Acting.{text-length}
 use Rattle.redact_3_node.specs.Node.{opens, nodeEnd, liveTexts, leafSize, leavesSize}
 
 -- by the two values of a test
@@ -120,10 +121,6 @@ live-append cells store i (suc k) l =
 
 -- ---- their bytes
 
-text-length : {cells : List ℕ} {store : Text} {n used : ℕ} → Good cells store n used → (i : ℕ) → i < n → length (textOf cells store i) ≡ cell cells i 2
-unfolding textOf part
-text-length g i h = simp length-take (simp length-drop (omega (arith, g .ends i h, g .room)))
-
 pub size-live : {cells : List ℕ} {store : Text} {n used : ℕ} → Good cells store n used → (i k : ℕ) → i + k ≤ n → size (liveTexts cells store i k) ≡ leavesSize cells i k
 unfolding leavesSize leafSize size
 size-live g i zero h = unfold liveTexts in refl
@@ -140,28 +137,6 @@ nil-live cells store i (suc k) =
     by-bool (eqb (cell cells i 3) 0)
     (λ e. rw (live-here cells store i k e, e) (sym (ne-eqb (cell cells i 2 + 1 + leavesSize cells (suc i) k) 0 (λ q. omega arith))))
     (λ e. let z : 0 + leavesSize cells (suc i) k ≡ leavesSize cells (suc i) k = omega arith in rw (live-gone cells store i k e, e, z) (nil-live cells store (suc i) k))
-
-pub sum-step : (cells : List ℕ) (i e : ℕ) → i < e → liveSum cells i (e - i) ≡ liveLen cells i + liveSum cells (suc i) (e - suc i)
-sum-step cells i e h = let n : e - i ≡ suc (e - suc i) = omega arith in rw n (unfold liveSum in refl)
-
--- a leaf whose length and whose being there did not change
-pub lens-kept : (cells cells′ : List ℕ) (j : ℕ) → cell cells′ j 3 ≡ cell cells j 3 → cell cells′ j 2 ≡ cell cells j 2 → liveLen cells′ j ≡ liveLen cells j
-unfolding liveLen
-lens-kept cells cells′ j e q = rw (e, q)
-
--- of more leaves they are no fewer
-pub sum-more : (cells : List ℕ) (i k l : ℕ) → k ≤ l → liveSum cells i k ≤ liveSum cells i l
-unfolding liveSum
-sum-more cells i zero l h = omega arith
-sum-more cells i (suc k) zero h = absurd (omega arith)
-sum-more cells i (suc k) (suc l) h = omega (arith, sum-more cells (suc i) k l (omega arith))
-
-pub sum-each : (cells : List ℕ) (i k j : ℕ) → i ≤ j → j < i + k → liveLen cells j ≤ liveSum cells i k
-unfolding liveSum
-sum-each cells i zero j h l = absurd (omega arith)
-sum-each cells i (suc k) j h l = by-bool (eqb i j)
-    (λ e. rw (← eqb-true i j e) (omega arith))
-    (λ e. omega (arith, sum-each cells (suc i) k j (omega (arith, eqb-false i j e)) (omega arith)))
 
 leaf-most : (cells : List ℕ) (i : ℕ) → leafSize cells i ≤ liveLen cells i + 1
 unfolding leafSize liveLen

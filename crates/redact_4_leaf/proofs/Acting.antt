@@ -9,12 +9,13 @@ use borrow.Author.Tests.{lt-ltb, le-ltb}
 use lib.ListN.{length, length-append}
 use Rattle.text.specs.Text.{Text, part, SameTo}
 use Rattle.text.proofs.Laws.{clash}
-use Rattle.text.proofs.Kept.{part-same, part-length}
+use Rattle.text.proofs.Kept.{part-length}
 use Rattle.refusal.specs.declared.Refusal.the-variants.{MessageTooLong}
 use Rattle.run_model.specs.Redact.{Fate, stays, after, Row, changing, Known, Book, stopped, booked, bookAll}
 use Rattle.er7_table.specs.Table.{cell, textAt, Good}
 use Rattle.er7_render.specs.Stored.{TextSet, liveLen}
-use Rattle.er7_render.proofs.Slots.{good-more, set-good}
+use Rattle.er7_render.proofs.Slots.{good-more, set-good, kept-text, kept-good}
+use Rattle.er7_render.proofs.Sums.{lens-kept}
 use Rattle.redact_6_row.proofs.Rows.{reported-more}
 use Rattle.redact_5_act.specs.Act.{LeafHeld, Became, Overran, ActedBeside}
 use Rattle.redact_5_act.specs.declared.act.Fate.{Fate as HeldFate}
@@ -45,23 +46,9 @@ pub live-length : (cells : List ℕ) (i : ℕ) → cell cells i 3 ≡ 0 → live
 unfolding liveLen
 live-length cells i e = rw e
 
-pub text-length : {cells : List ℕ} {store : Text} {n i : ℕ} {c : Counters} → Live cells store n i c → length (textOf cells store i) ≡ cell cells i 2
+pub text-length : {cells : List ℕ} {store : Text} {n used : ℕ} → Good cells store n used → (i : ℕ) → i < n → length (textOf cells store i) ≡ cell cells i 2
 unfolding textOf
-text-length {cells} {store} {n} {i} w = part-length store (cell cells i 1) (cell cells i 2) (omega (arith, w .good .ends i (w .inside), w .good .room))
-
--- ---- the texts of n leaves, where what stands behind them changed
-
-module _ {cells : List ℕ} {store store′ : Text} {n used : ℕ} (g : Good cells store n used) (k : SameTo used store store′) where
-  pub kept-text : (j : ℕ) → j < n → textAt cells store′ j ≡ textAt cells store j
-  unfolding textAt
-  kept-text j h = rw (part-same k (cell cells j 1) (cell cells j 2) (g .ends j h))
-
-  pub kept-good : Good cells store′ n used
-  kept-good = record { rows = g .rows; room = rw (k .long) (g .room); ends = g .ends }
-
-set-lens : {cells cells′ : List ℕ} {i start len : ℕ} → TextSet cells i start len cells′ → (j : ℕ) → (j ≡ i → ⊥) → liveLen cells′ j ≡ liveLen cells j
-unfolding liveLen
-set-lens v j ne = rw (v .gone j, v .other j 2 (omega arith) ne)
+text-length {cells} {store} g i h = part-length store (cell cells i 1) (cell cells i 2) (omega (arith, g .ends i h, g .room))
 
 -- ---- what becomes of a leaf
 
@@ -116,7 +103,7 @@ module _ {cells : List ℕ} {store : Text} {n i : ℕ} {c : Counters} (g : Live 
       here = rw (w .is) (unfold after in (new-set .here store′ (g .live) ∙ ap some (w .stands .here)));
       other = λ j h ne. new-set .other-text store′ j ne ∙ kept-text (g .good) (w .stands .before) j h;
       place = new-set .place;
-      lens = set-lens new-set;
+      lens = λ j ne. lens-kept cells cells′ j (new-set .gone j) (new-set .other j 2 (omega arith) ne);
       cells-long = new-set .rows;
       report-long = e .row .long;
       paid = λ q. omega (arith, new-used, new-size, one q .0, one q .1);

@@ -7,6 +7,7 @@ use Prim.Native.Nat.{ℕ, suc, _+_, _-_, _≤_, _<_}
 use native.Mathlib.Omega.{arith}
 use lib.ListN.{length}
 use Rattle.text.specs.Text.{Text}
+use Rattle.text.proofs.Laws.{or-true}
 use Rattle.text.proofs.Kept.{same-all}
 use Rattle.refusal.specs.declared.Refusal.{Refusal}
 use Rattle.er7.specs.declared.message.Place.{Place}
@@ -29,10 +30,6 @@ use Rattle.redact_4_leaf.specs.declared.leaf.Spot.{Spot}
 use Rattle.redact_4_leaf.proofs.Learnt.{learnt-none, learn-keep}
 use Rattle.redact_4_leaf.proofs.Acting.{ready-live, live-text, text-length, stayed}
 use Rattle.redact_4_leaf.proofs.Visits.{marks-here, marks-other, Seen, seen-visit, seen-full}
-
-or-true : (a : Bool) → a || true ≡ true
-or-true true = refl
-or-true false = refl
 
 -- learning leaves all but what is known
 pub learnt-ready : {cells : List ℕ} {store : Text} {n i : ℕ} {c : Counters} → Ready cells store n i c → {es : List Event} {sweep : Bool} {text bytes bytes′ : Text} {known known′ : List ℕ} {c₁ : Counters}
@@ -80,7 +77,7 @@ module _ (on : Setting) (at : Spot) (r : Rule) (text : Text) (named : List Bool)
       ++ changing (row (asLabel (at .label)) (placeAt cells (at .index)) (r .action)) (cell cells (at .index) 2) (act (on .key) (on .separators) (r .action) (textOf cells store (at .index)))
   unfolding saidOf rulePass leafAt
   rule-said =
-      rw (live-text cells store (at .index) (w .live), covered-says (on .key) (on .separators) r (asLabel (at .label)) (placeAt cells (at .index)) (marked named (at .index)) (textOf cells store (at .index)) (listOf (leafAt (marked named) cells store) (suc (at .index)) (at .end - suc (at .index))) e q, text-length (ready-live w))
+      rw (live-text cells store (at .index) (w .live), covered-says (on .key) (on .separators) r (asLabel (at .label)) (placeAt cells (at .index)) (marked named (at .index)) (textOf cells store (at .index)) (listOf (leafAt (marked named) cells store) (suc (at .index)) (at .end - suc (at .index))) e q, text-length (w .good) (at .index) (w .inside))
 
   rule-leaf : {named′ : List Bool} → Marked named (at .index) named′
       → leaf (placeAt cells (at .index)) (marked named′ (at .index)) (after (act (on .key) (on .separators) (r .action) (textOf cells store (at .index))) (textOf cells store (at .index)))

@@ -68,7 +68,7 @@ module _ (on : Setting) (at : Spot) (text : Text) (named : List Bool) (cells : L
         ≡ changing (row (asLabel (at .label)) (placeAt cells (at .index)) a) (cell cells (at .index) 2) (act (on .key) (on .separators) a here)
     unfolding saidOf unnamedPass leafAt
     unnamed-said =
-        rw (live-text cells store (at .index) (w .live), act-says (on .key) (on .separators) (pick (knownNow text bytes known c)) (asLabel (at .label)) (placeAt cells (at .index)) (marked named (at .index)) here behind a u q, text-length (ready-live w))
+        rw (live-text cells store (at .index) (w .live), act-says (on .key) (on .separators) (pick (knownNow text bytes known c)) (asLabel (at .label)) (placeAt cells (at .index)) (marked named (at .index)) here behind a u q, text-length (w .good) (at .index) (w .inside))
 
     unnamed-leaf : leaf (placeAt cells (at .index)) (marked named (at .index)) (after (act (on .key) (on .separators) a here) here)
         ≡ P (knownNow text bytes known c) .leaf (asLabel (at .label)) (leafAt (marked named) cells store (at .index)) behind

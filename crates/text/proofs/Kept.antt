@@ -21,12 +21,20 @@ pub same-less : {j k : ℕ} {d d′ : Text} → j ≤ k → SameTo k d d′ → 
 same-less {j} {k} {d} {d′} h p = record { long = p .long; same = sym (take-take j k d′ h) ∙ ap (take j) (p .same) ∙ take-take j k d h }
 
 -- the text up to index e, and of that what stands from index i on
-between-is : (t : Text) (i e : ℕ) → between t i e ≡ drop i (take e t)
+pub between-is : (t : Text) (i e : ℕ) → between t i e ≡ drop i (take e t)
 unfolding between
 between-is t zero e = let z : e - 0 ≡ e = omega arith in rw z
 between-is [] (suc i) e = take-nil (e - suc i) ∙ sym (ap (drop (suc i)) (take-nil e))
 between-is (x ∷ t) (suc i) zero = let z : 0 - suc i ≡ 0 = omega arith in rw z
 between-is (x ∷ t) (suc i) (suc e) = let z : suc e - suc i ≡ e - i = omega arith in rw z (between-is t i e)
+
+pub part-take : (t : Text) (e i n : ℕ) → i + n ≤ e → part (take e t) i n ≡ part t i n
+unfolding part between
+part-take t e i n h = ap (take n) (sym (between-is t i e)) ∙ take-take n (e - i) (drop i t) (omega arith)
+
+-- a part that ends at or before e is the same in a text that begins alike
+pub part-kept : (t t′ : Text) (e : ℕ) → take e t′ ≡ take e t → (i n : ℕ) → i + n ≤ e → part t′ i n ≡ part t i n
+part-kept t t′ e q i n h = sym (part-take t′ e i n h) ∙ ap (λ (w : Text). part w i n) q ∙ part-take t e i n h
 
 between-part : (t : Text) (i n : ℕ) → between t i (i + n) ≡ part t i n
 unfolding between
@@ -38,7 +46,7 @@ module _ {k : ℕ} {d d′ : Text} (p : SameTo k d d′) where
   between-same i e h = between-is d′ i e ∙ ap (drop i) (same-less h p .same) ∙ sym (between-is d i e)
 
   pub part-same : (i n : ℕ) → i + n ≤ k → part d′ i n ≡ part d i n
-  part-same i n h = sym (between-part d′ i n) ∙ between-same i (i + n) h ∙ between-part d i n
+  part-same i n h = part-kept d d′ k (p .same) i n h
 
 pub part-length : (d : Text) (i n : ℕ) → i + n ≤ length d → length (part d i n) ≡ n
 unfolding part
@@ -67,14 +75,6 @@ module _ {d d′ s : Text} {at r : ℕ} (w : Wrote d at s d′ r) where
   pub wrote-stands : StandsAt d at s d′
   wrote-stands = record { before = wrote-same; room = omega (arith, w .end, w .high); here = wrote-part }
 
--- what stands in a buffer, after it and before it the first bytes are kept
-module _ {d e f s : Text} {at : ℕ} where
-  pub stands-then : StandsAt d at s e → SameTo (at + length s) e f → StandsAt d at s f
-  stands-then p q = record {
-    before = same-then (p .before) (same-less (omega arith) q);
-    room = p .room;
-    here = part-same q at (length s) (omega arith) ∙ p .here;
-  }
-
-  pub stands-same : SameTo at d e → StandsAt e at s f → StandsAt d at s f
-  stands-same p q = record { before = same-then p (q .before); room = omega (arith, q .room, p .long); here = q .here }
+-- what stands in a buffer, where its first bytes were kept before
+pub stands-same : {d e f s : Text} {at : ℕ} → SameTo at d e → StandsAt e at s f → StandsAt d at s f
+stands-same p q = record { before = same-then p (q .before); room = omega (arith, q .room, p .long); here = q .here }

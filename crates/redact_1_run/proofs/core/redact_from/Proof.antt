@@ -44,7 +44,7 @@ same-length-5 : tie.Need-same-length-5
 same-length-5 c = search needs
 
 returns-2 : tie.Need-returns-2
-returns-2 c = λ m w. end-refused _ _ _ w (c .before .before .before .before .before .before .before .before .before .before .before .before .before .before .load .ensures) _ _ _ _ _ _ _ _ _ _ (c .before .before .before .before .before .before .before .run-turns .ensures) (c .before .done2 .given .1) _ _ _
+returns-2 c = λ m w. end-refused _ _ _ w (c .before .before .before .before .before .before .before .before .before .before .before .before .before .before .load .ensures) _ _ _ _ _ _ _ _ _ _ (c .before .before .before .before .before .before .before .run-turns .ensures) (c .before .done2 .given .1) _ _
 
 pub redact-from-spec : {M : Type 1} → statement M
 redact-from-spec =

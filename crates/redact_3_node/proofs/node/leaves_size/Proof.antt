@@ -3,7 +3,8 @@ use Rattle.redact_3_node.proofs.node.leaves_size.Statement.{statement}
 use Rattle.redact_3_node.proofs.node.leaves_size.Tie as tie
 use native.Mathlib.Omega.{arith}
 use Prim.Native.Nat.{_-_}
-use Rattle.redact_3_node.proofs.Nodes.{Adding, adding-start, adding-fits, adding-more, adding-end, sum-each}
+use Rattle.redact_3_node.proofs.Nodes.{Adding, adding-start, adding-fits, adding-more, adding-end}
+use Rattle.er7_render.proofs.Sums.{sum-each}
 
 abbrev Inv-loop : tie.InvT-loop
 Inv-loop first end cells sum₀ i₀ sum i = Adding cells first end i sum
