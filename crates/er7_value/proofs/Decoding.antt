@@ -1,5 +1,5 @@
 -- Laws of `decode` and `value`: lengths, and a turn of the loop over plain values. Assumes nothing.
-use mathlib.Core.Path.{_≡_, refl, ap, _∙_}
+use mathlib.Core.Path.{_≡_, refl, sym, ap, _∙_}
 use mathlib.Core.Bool.{Bool, true, false, not, cond}
 use mathlib.Core.List.{[], _∷_, _++_, append-nil, append-assoc}
 use mathlib.Core.Option.{Option, none, some}
@@ -9,12 +9,13 @@ use borrow.Author.Tests.{eq-eqb, eqb-true, not-true, not-false}
 use lib.Dec.{eqb}
 use lib.ListN.{length, drop, getD, length-append, length-take, length-drop, drop-of-length-le}
 use Rattle.text.specs.declared.bytes.Class.the-variants.{AllBut}
-use Rattle.text.specs.Text.{Text, isEmpty, isIn, run, rest, part, Wrote, RunEnd}
+use Rattle.text.specs.Text.{Text, bytes, isEmpty, isIn, run, rest, part, Wrote, RunEnd}
 use Rattle.text.proofs.Laws.{by-cond}
 use Rattle.text.proofs.Runs.{drop-step, stop, stop-rest}
+use Rattle.text.proofs.Words.{same-longer}
 use Rattle.text.proofs.Writes.{wrote-none, wrote-then, wrote-length}
 use Rattle.er7.specs.declared.separators.Separators.{Separators}
-use Rattle.message_model.specs.Value.{isNull, isEmptyOrNull, delimiterOf, letterRun, pair, Mode, outside, inside, adds, goesOn, decodeFrom, decode, value}
+use Rattle.message_model.specs.Value.{NULL, isNull, isEmptyOrNull, delimiterOf, letterRun, pair, Mode, outside, inside, adds, goesOn, decodeFrom, decode, value}
 use Rattle.er7_value.specs.declared.escape.Delimiter.the-variants.{Is, Unnamed}
 use Rattle.er7_value.specs.Escape.{heldDelimiter}
 
@@ -29,6 +30,15 @@ pub null-only : (t : Text) → (length t ≡ 0 → ⊥) → isNull t ≡ isEmpty
 unfolding isEmptyOrNull isEmpty
 null-only [] n = absurd (n refl)
 null-only (x ∷ t) n = refl
+
+pub null-length : length NULL ≡ 2
+unfolding NULL bytes
+null-length = refl
+
+-- a text of three bytes is neither
+pub long-full : (t : Text) → 3 ≤ length t → isEmptyOrNull t ≡ false
+unfolding isNull
+long-full t h = sym (null-only t (λ e. absurd (omega arith))) ∙ same-longer t NULL (λ e. absurd (omega (arith, null-length)))
 
 -- ---- a pair
 

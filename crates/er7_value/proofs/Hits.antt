@@ -1,5 +1,5 @@
 -- Laws of `begins`, `endsWord` and `findWord`: from an index on, over plain values. Assumes nothing.
-use mathlib.Core.Path.{_≡_, refl, sym, _∙_}
+use mathlib.Core.Path.{_≡_, refl, sym, ap, _∙_}
 use mathlib.Core.Bool.{Bool, true, false, not, _&&_}
 use mathlib.Core.List.{[], _∷_}
 use Prim.Native.Nat.{ℕ, zero, suc, _+_, _-_, _≤_, _<_}
@@ -13,7 +13,8 @@ use Rattle.text.specs.Text.{Text, isIn, isAlphanumeric, begins, part}
 use Rattle.text.proofs.Runs.{drop-step}
 use Rattle.text.proofs.Words.{same-longer, Comparing, comparing-start, comparing-more, comparing-differs, comparing-all}
 use Rattle.message_model.specs.Value.{endsWord, findWord, isWholeWord}
-use Rattle.er7_value.specs.Word.{letterBefore, standsAlone}
+use Rattle.er7_value.specs.Starts.{letterBefore}
+use Rattle.er7_value.specs.Word.{standsAlone}
 
 -- ---- a hit
 
@@ -24,6 +25,9 @@ part-full t i n h = simp (length-take, length-drop) (omega arith)
 part-byte : (t : Text) (i n j : ℕ) → j < n → getD (part t i n) j 0 ≡ getD t (i + j) 0
 unfolding part
 part-byte t i n j h = getD-take n (drop i t) j 0 h ∙ getD-drop i t j 0
+
+pub part-first : (t : Text) (i n : ℕ) → 0 < n → getD (part t i n) 0 0 ≡ getD t i 0
+part-first t i n h = part-byte t i n 0 h ∙ ap (λ (j : ℕ). getD t j 0) (add-zero i)
 
 hit-short : (v t : Text) → length t < length v → begins v t ≡ false
 unfolding begins
@@ -57,7 +61,7 @@ unfolding letterBefore isIn
 before-later t zero n = absurd (n refl)
 before-later t (suc i) n = let e : suc i - 1 ≡ i = omega arith in rw e
 
-before-next : (t : Text) (i : ℕ) → letterBefore t (i + 1) ≡ isAlphanumeric (getD t i 0)
+pub before-next : (t : Text) (i : ℕ) → letterBefore t (i + 1) ≡ isAlphanumeric (getD t i 0)
 unfolding letterBefore
 before-next t i = rw (add-one i)
 
@@ -101,6 +105,11 @@ find-short : (v : Text) (a : Bool) (t : Text) → length t < 1 + (length v - 1) 
 unfolding findWord
 find-short v a [] h = refl
 find-short v a (x ∷ t) h = find-on v a x t (hit-short v (x ∷ t) (omega arith)) ∙ find-short v (isAlphanumeric x) t (omega arith)
+
+-- a text with fewer bytes than v does not have it as a word
+pub word-short : (v t : Text) → length t < length v → isWholeWord v t ≡ false
+unfolding isWholeWord
+word-short v t h = find-short v false t (omega arith)
 
 -- v is found in t from index i on
 unfoldable pub foundFrom : Text → Text → ℕ → Bool

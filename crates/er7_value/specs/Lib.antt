@@ -1,2 +1,3 @@
 pub mod Escape
+pub mod Starts
 pub mod Word

@@ -10,7 +10,8 @@ ghost use lib.ListN.{length, drop};
 ghost use Rattle.text.specs.Text.{Wrote, lower, part, begins};
 ghost use Rattle.message_model.specs.Value.{endsWord, isWholeWord};
 ghost use Rattle.message_model.specs.Value as Spec;
-ghost use Rattle.er7_value.specs.Word.{letterBefore, standsAlone};
+ghost use Rattle.er7_value.specs.Starts.{letterBefore, Starts};
+ghost use Rattle.er7_value.specs.Word.{standsAlone};
 
 // Puts buf from index i to index e in lower case.
 pub fn lower_part(buf: &mut [u8], i: usize, e: usize)
@@ -58,6 +59,21 @@ fn letter_before(t: &[u8], i: usize) -> bool
         return false;
     }
     is_in(Class::Alphanumeric, t[i - 1])
+}
+
+// Marks each byte that stands in t with no letter or digit directly before it. The mark is set without a branch, which is faster.
+pub fn mark_starts(t: &[u8], starts: &mut [bool; 256])
+    ensures { λ _. ⌜ Starts (now (t .entry)) (now (starts .exit)) ⌝ }
+{
+    let all = &mut starts[..];
+    let mut after = false;
+    let mut i = 0;
+    while i < t.len() {
+        let b = t[i] as usize;
+        all[b] = all[b] | !after;
+        after = is_in(Class::Alphanumeric, t[i]);
+        i += 1;
+    }
 }
 
 // Whether no letter or digit stands in t directly behind index e.

@@ -172,6 +172,14 @@ room-ordered {segs} {m} {n} {cells} {cells′} {store} {store′} z w a = record
       (λ j x y. w .room .leaf (marked []) j (omega (arith, z .order (k + 1) m (omega arith) (omega arith), z .all))) (a .ordered k h);
 }
 
+-- a turn by the tally that it was lent, with the counters c before and r behind it
+module _ {P : List Known → Pass} {on : Setting} {segs : List ℕ} {text : Text} {β₀ β : Buffers} {c₀ c : Counters} {d : Done} (e : c₀ ≡ c) (t : TurnTaken P on segs text β₀ c₀ β d) where
+  pub turn-made : {c₁ r : Counters} → d ≡ Going c₁ → r ≡ c₁ → TurnTaken P on segs text β₀ c β (Going r)
+  turn-made q f = rw (← e, f) (rw q at t)
+
+  pub turn-refused : {x : Refusal} → d ≡ Stopped x → TurnTaken P on segs text β₀ c β (Stopped x)
+  turn-refused q = rw (← e) (rw q at t)
+
 -- a run that was refused before
 pub next-stopped : {P : List Known → Pass} {on : Setting} {text : Text} {segs : List ℕ} {β β′ : Buffers} {d : Done} {e : Refusal} → d ≡ Stopped e → NextIs P on text segs β d β′ (Stopped e)
 next-stopped q = rw q (record { out = refl })

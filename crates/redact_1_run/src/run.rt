@@ -10,6 +10,9 @@ use redact_2_turn::turn::take_turn;
 use redact_5_act::state::Counters;
 use redact_5_act::state::Done;
 use redact_5_act::state::Setting;
+use redact_5_act::state::Step;
+use redact_5_act::state::read_tally;
+use redact_5_act::state::write_tally;
 use redact_6_row::reach::Reach;
 use redact_6_row::reach::reach_of;
 ghost use mathlib.Core.Path.{_≡_};
@@ -131,7 +134,9 @@ fn next(
     match done {
         Done::Going(c0) => {
             let c = with_room(job.on.leaves, cells, store, bytes, c0);
-            take_turn(
+            let mut tally = [0usize; 6];
+            write_tally(&mut tally, c);
+            match take_turn(
                 job,
                 text,
                 segs,
@@ -141,8 +146,11 @@ fn next(
                 report,
                 bytes,
                 known,
-                c,
-            )
+                &mut tally,
+            ) {
+                Step::Made => Done::Going(read_tally(&tally)),
+                Step::Refused(refusal) => Done::Stopped(refusal),
+            }
         }
         Done::Stopped(refusal) => Done::Stopped(refusal),
     }

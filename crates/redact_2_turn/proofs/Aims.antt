@@ -9,6 +9,7 @@ use lib.Dec.{eqb}
 use lib.ListN.{length, getD}
 use Rattle.text.specs.Text.{Text, same, part}
 use Rattle.text.proofs.Laws.{and-false, and-id, and-left, and-right}
+use Rattle.text.proofs.Words.{same-longer}
 use Rattle.text.proofs.Runs.{drop-step}
 use Rattle.text.proofs.Kept.{part-length}
 use Rattle.er7.specs.Path.{asPath, PathHeld}
@@ -25,14 +26,6 @@ use Rattle.redact_2_turn.specs.Turn.{noPath, nameByte, aimAt, aimUnnamed
 use Rattle.redact_2_turn.specs.declared.turn.Aim.{Aim}
 
 -- ---- a name of three bytes
-
--- texts of different lengths are not the same
-same-longer : (s t : Text) → (length s ≡ length t → ⊥) → same s t ≡ false
-unfolding same
-same-longer [] [] h = absurd (h refl)
-same-longer [] (y ∷ t) h = refl
-same-longer (x ∷ s) [] h = refl
-same-longer (x ∷ s) (y ∷ t) h = rw (same-longer s t (λ e. h (omega arith))) (and-false (eqb x y))
 
 three-bytes : (t : Text) (i n : ℕ) → i + n ≤ length t → n ≡ 3 → part t i n ≡ getD t (i + 0) 0 ∷ getD t (i + 1) 0 ∷ getD t (i + 2) 0 ∷ []
 unfolding part
@@ -108,3 +101,8 @@ enters-is aim segs k {f} e = rw e (ap (λ b. aim .every || (aim .some && b && fi
     go true true c = sym (and-id c)
     go true false c = refl
     go false b c = refl
+
+-- a leaf of another field is not worked on
+pub works-elsewhere : (aim : Aim) (g : Label) (named : Bool) (cells : List ℕ) (i : ℕ) → fits (aim .path .field) (cell cells i 4) ≡ false → works aim g named cells i ≡ false
+unfolding works reachesPlace placeAt asPath
+works-elsewhere aim g named cells i e = rw (e, and-false (isTouched g cells i))

@@ -12,9 +12,8 @@ use redact_4_leaf::leaf::act_on;
 use redact_4_leaf::leaf::mark;
 use redact_4_leaf::visit::apply_leaf;
 use redact_4_leaf::visit::sweep_leaf;
-use redact_5_act::state::Counters;
-use redact_5_act::state::Done;
 use redact_5_act::state::Setting;
+use redact_5_act::state::Step;
 use redact_6_row::reach::index_fits;
 use redact_6_row::reach::reaches_place;
 use redact_6_row::reach::touchable;
@@ -24,6 +23,7 @@ ghost use Prim.Native.Nat.{_+_, _*_, _≤_, _<_};
 ghost use lib.ListN.{length};
 ghost use Rattle.er7.specs.Path.{PathHeld};
 ghost use Rattle.er7_table.specs.Table.{labelAt, asLabel, Segmented, BytesNamed, AllNamed};
+ghost use Rattle.redact_5_act.specs.State.{counted, afterStep};
 ghost use Rattle.redact_4_leaf.specs.State.{buffers};
 ghost use Rattle.redact_4_leaf.specs.Visit.{Visit};
 ghost use Rattle.redact_2_turn.specs.Turn as Turns;
@@ -181,6 +181,9 @@ fn works_on(aim: Aim, g: Label, named: bool, i: usize, cells: &[usize]) -> bool
     ensures { λ r. ⌜ r ≡ works aim (asLabel g) named (now (cells .entry)) i ⌝ }
 {
     let at = i * 8;
+    if !index_fits(aim.path.field, cells[at + 4]) {
+        return false;
+    }
     let live = cells[at + 3] == 0;
     let long = cells[at + 2] != 0;
     let p = place_at(cells, i);
@@ -229,17 +232,28 @@ fn visit(
     report: &mut [u8],
     bytes: &mut [u8; 65536],
     known: &mut [usize; 4096],
-    c: Counters,
-) -> Done
-    requires { ⌜ JobHeld (now text) job × Visitable (now text) job at (buffers (now named) (now cells) (now store) (now report) (now bytes) (now known)) c ⌝ }
-    ensures { λ r. ⌜ Visit (passBy (now (text .entry)) job) (collapses (job .turn)) (job .on) at (now (text .entry)) (buffers (now (named .entry)) (now (cells .entry)) (now (store .entry)) (now (report .entry)) (now (bytes .entry)) (now (known .entry))) c (buffers (now (named .exit)) (now (cells .exit)) (now (store .exit)) (now (report .exit)) (now (bytes .exit)) (now (known .exit))) r ⌝ }
+    tally: &mut [usize; 6],
+) -> Step
+    requires { ⌜ JobHeld (now text) job × Visitable (now text) job at (buffers (now named) (now cells) (now store) (now report) (now bytes) (now known)) (counted (now tally)) ⌝ }
+    ensures { λ r. ⌜ Visit (passBy (now (text .entry)) job) (collapses (job .turn)) (job .on) at (now (text .entry)) (buffers (now (named .entry)) (now (cells .entry)) (now (store .entry)) (now (report .entry)) (now (bytes .entry)) (now (known .entry))) (counted (now (tally .entry))) (buffers (now (named .exit)) (now (cells .exit)) (now (store .exit)) (now (report .exit)) (now (bytes .exit)) (now (known .exit))) (afterStep (counted (now (tally .exit))) r) ⌝ }
 {
     let on = job.on;
     let turn = job.turn;
     match turn {
         Turn::Apply(rule) => {
             mark(named, at.index);
-            apply_leaf(on, at, rule, text, cells, store, report, bytes, known, c)
+            apply_leaf(
+                on,
+                at,
+                rule,
+                text,
+                cells,
+                store,
+                report,
+                bytes,
+                known,
+                tally,
+            )
         }
         Turn::Collapse(rule) => collapse_leaf(
             on,
@@ -251,11 +265,11 @@ fn visit(
             report,
             bytes,
             known,
-            c,
+            tally,
         ),
-        Turn::Reject(a) => act_on(on, at, a, text, cells, store, report, bytes, c),
-        Turn::Sweep => sweep_leaf(on, at, text, cells, store, report, bytes, known, c),
-        Turn::Idle => Done::Going(c),
+        Turn::Reject(a) => act_on(on, at, a, text, cells, store, report, bytes, tally),
+        Turn::Sweep => sweep_leaf(on, at, text, cells, store, report, bytes, known, tally),
+        Turn::Idle => Step::Made,
     }
 }
 
@@ -282,14 +296,13 @@ fn pass_leaves(
     report: &mut [u8],
     bytes: &mut [u8; 65536],
     known: &mut [usize; 4096],
-    c0: Counters,
-) -> Done
-    requires { ⌜ JobHeld (now text) job × Passable job at (now cells) × Ahead (now text) job (at .index) (buffers (now named) (now cells) (now store) (now report) (now bytes) (now known)) c0 ⌝ }
-    ensures { λ r. ⌜ LeavesPassed (passBy (now (text .entry)) job) (collapses (job .turn)) (job .on) at (now (text .entry)) (buffers (now (named .entry)) (now (cells .entry)) (now (store .entry)) (now (report .entry)) (now (bytes .entry)) (now (known .entry))) c0 (buffers (now (named .exit)) (now (cells .exit)) (now (store .exit)) (now (report .exit)) (now (bytes .exit)) (now (known .exit))) r ⌝ }
+    tally: &mut [usize; 6],
+) -> Step
+    requires { ⌜ JobHeld (now text) job × Passable job at (now cells) × Ahead (now text) job (at .index) (buffers (now named) (now cells) (now store) (now report) (now bytes) (now known)) (counted (now tally)) ⌝ }
+    ensures { λ r. ⌜ LeavesPassed (passBy (now (text .entry)) job) (collapses (job .turn)) (job .on) at (now (text .entry)) (buffers (now (named .entry)) (now (cells .entry)) (now (store .entry)) (now (report .entry)) (now (bytes .entry)) (now (known .entry))) (counted (now (tally .entry))) (buffers (now (named .exit)) (now (cells .exit)) (now (store .exit)) (now (report .exit)) (now (bytes .exit)) (now (known .exit))) (afterStep (counted (now (tally .exit))) r) ⌝ }
 {
     let aim = job.aim;
     let g = at.label;
-    let mut c = c0;
     let mut i = skip(
         aim,
         g,
@@ -310,18 +323,16 @@ fn pass_leaves(
             report,
             bytes,
             known,
-            c,
+            tally,
         ) {
-            Done::Going(next) => {
-                c = next;
-            }
-            Done::Stopped(refusal) => {
-                return Done::Stopped(refusal);
+            Step::Made => {}
+            Step::Refused(refusal) => {
+                return Step::Refused(refusal);
             }
         }
         i = skip(aim, g, named, cells, i + 1, at.end);
     }
-    Done::Going(c)
+    Step::Made
 }
 
 // Where the first leaf of segment k stands.
@@ -348,26 +359,34 @@ pub fn take_turn(
     report: &mut [u8],
     bytes: &mut [u8; 65536],
     known: &mut [usize; 4096],
-    c0: Counters,
-) -> Done
-    requires { ⌜ JobHeld (now text) job × AllNamed (now segs) (job .on .segments) × Segmented (now segs) (job .on .segments) (job .on .leaves) × AllOrdered (now segs) (now cells) (job .on .segments) × Ahead (now text) job 0 (buffers (now named) (now cells) (now store) (now report) (now bytes) (now known)) c0 ⌝ }
-    ensures { λ r. ⌜ TurnTaken (passBy (now (text .entry)) job) (job .on) (now (segs .entry)) (now (text .entry)) (buffers (now (named .entry)) (now (cells .entry)) (now (store .entry)) (now (report .entry)) (now (bytes .entry)) (now (known .entry))) c0 (buffers (now (named .exit)) (now (cells .exit)) (now (store .exit)) (now (report .exit)) (now (bytes .exit)) (now (known .exit))) r ⌝ }
+    tally: &mut [usize; 6],
+) -> Step
+    requires { ⌜ JobHeld (now text) job × AllNamed (now segs) (job .on .segments) × Segmented (now segs) (job .on .segments) (job .on .leaves) × AllOrdered (now segs) (now cells) (job .on .segments) × Ahead (now text) job 0 (buffers (now named) (now cells) (now store) (now report) (now bytes) (now known)) (counted (now tally)) ⌝ }
+    ensures { λ r. ⌜ TurnTaken (passBy (now (text .entry)) job) (job .on) (now (segs .entry)) (now (text .entry)) (buffers (now (named .entry)) (now (cells .entry)) (now (store .entry)) (now (report .entry)) (now (bytes .entry)) (now (known .entry))) (counted (now (tally .entry))) (buffers (now (named .exit)) (now (cells .exit)) (now (store .exit)) (now (report .exit)) (now (bytes .exit)) (now (known .exit))) (afterStep (counted (now (tally .exit))) r) ⌝ }
 {
     let aim = job.aim;
     let m = job.on.segments;
-    let mut c = c0;
     let mut k = next_segment(aim, segs, 0, m);
     while k < m {
         let at = spot_of(segs, k);
-        match pass_leaves(job, at, text, named, cells, store, report, bytes, known, c) {
-            Done::Going(next) => {
-                c = next;
-            }
-            Done::Stopped(refusal) => {
-                return Done::Stopped(refusal);
+        match pass_leaves(
+            job,
+            at,
+            text,
+            named,
+            cells,
+            store,
+            report,
+            bytes,
+            known,
+            tally,
+        ) {
+            Step::Made => {}
+            Step::Refused(refusal) => {
+                return Step::Refused(refusal);
             }
         }
         k = next_segment(aim, segs, k + 1, m);
     }
-    Done::Going(c)
+    Step::Made
 }

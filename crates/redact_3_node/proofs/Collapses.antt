@@ -6,13 +6,14 @@ use Prim.Native.Nat.{ℕ, suc, _+_, _-_, _*_, _≤_, _<_}
 use native.Mathlib.Omega.{arith}
 use lib.Dec.{eqb}
 use lib.ListN.{length, take, drop}
-use Rattle.text.specs.Text.{Text, bytes, SameTo}
+use Rattle.text.specs.Text.{Text, SameTo}
 use Rattle.text.proofs.Laws.{clash}
 use Rattle.text.proofs.Runs.{part-slice}
 use Rattle.text.proofs.Kept.{same-all}
 use Rattle.refusal.specs.declared.Refusal.the-variants.{MessageTooLong}
 use Rattle.message_model.specs.Value.{NULL, isNull}
 use Rattle.run_model.specs.Redact.{Reach, Event, stays, becomes, collapse, size, Row}
+use Rattle.er7_value.proofs.Decoding.{null-length}
 use Rattle.er7_table.specs.Table.{cell}
 use Rattle.er7_render.specs.Stored.{liveSum}
 use Rattle.er7_render.proofs.Sums.{sum-step, sum-parts, sum-each}
@@ -22,7 +23,7 @@ use Rattle.redact_5_act.specs.declared.act.Fate.the-variants.{Stays, Becomes, T
 use Rattle.redact_5_act.specs.declared.state.Counters.{Counters}
 use Rattle.redact_5_act.specs.declared.state.Done.{Done}
 use Rattle.redact_5_act.specs.declared.state.Done.the-variants.{Going, Stopped}
-use Rattle.redact_4_leaf.specs.State.{textOf, Entered, Learning, NodeReady, Change}
+use Rattle.redact_4_leaf.specs.State.{textOf, Countable, Entered, Learning, NodeReady, Change}
 use Rattle.redact_4_leaf.proofs.Acting.{node-live, stayed, entered, overran}
 use Rattle.redact_4_leaf.proofs.Rules.{learnt-going}
 use Rattle.redact_3_node.specs.Node.{nodeEnd, AllLegible, liveTexts, leafSize, leavesSize, already}
@@ -47,23 +48,29 @@ module _ (cells : List ℕ) (store : Text) (i e : ℕ) {rest : ℕ} (q : rest �
 
 -- ---- the null in the place of its first leaf
 
-null-length : length NULL ≡ 2
-unfolding NULL bytes
-null-length = refl
-
-pub null-few : {went : ℕ} {c : Counters} {store store′ : Text} {r : HeldFate} {k : ℕ} → Acted (becomes NULL) went c store store′ r → r ≡ Becomes k → k ≤ 2
+null-few : {went : ℕ} {c : Counters} {store store′ : Text} {r : HeldFate} {k : ℕ} → Acted (becomes NULL) went c store store′ r → r ≡ Becomes k → k ≤ 2
 null-few a q = let w = (rw q at a) .out in let e : NULL ≡ w .text = cc (w .is) in omega (arith, w .long, null-length, ap length e)
 
-module _ {cells : List ℕ} {store : Text} {n i end : ℕ} {c : Counters} (g : NodeReady cells store n i end c) (ρ : Row) (went : ℕ) (report : Text) {store′ : Text} {r : HeldFate} (a : Acted (becomes NULL) went c store store′ r) where
-  pub null-stays : r ≡ Stays → Change true (becomes NULL) ρ went n i cells store report c cells store′ report (Going c)
-  null-stays q = record { out = stayed (node-live g) true ρ went ((rw q at a) .out) }
+module _ {cells : List ℕ} {store : Text} {n i end : ℕ} {c₀ c : Counters} (e : c ≡ c₀) (g : NodeReady cells store n i end c₀) where
+  pub null-room : (c .size ≤ 49152) × (c .used + 2 ≤ 98304)
+  null-room = rw e (g .most, g .room)
 
-  pub null-becomes : {k : ℕ} → r ≡ Becomes k → {cells′ : List ℕ} {report′ : Text} {c′ : Counters} → Entered ρ i went k cells report c cells′ report′ c′
-      → Change true (becomes NULL) ρ went n i cells store report c cells′ store′ report′ (Going c′)
-  null-becomes q e = record { out = entered (node-live g) true ρ went ((rw q at a) .out) e (λ x. clash x) (λ x. null-few a q) }
+  pub null-countable : {went : ℕ} {store′ : Text} {r : HeldFate} → Acted (becomes NULL) went c store store′ r → {k : ℕ} → r ≡ Becomes k → Countable k c₀
+  null-countable a q = record { rows = g .rows; report = g .report; size = g .most; used = omega (arith, g .room); text = omega (arith, null-few a q) }
 
-  pub null-long : r ≡ TooLong → {cells′ : List ℕ} {report′ : Text} → Change true (becomes NULL) ρ went n i cells store report c cells′ store′ report′ (Stopped MessageTooLong)
-  null-long q = record { out = overran (becomes NULL) ρ went report ((rw q at a) .out) }
+  module _ (ρ : Row) (went : ℕ) (report : Text) {store′ : Text} {r : HeldFate} (a : Acted (becomes NULL) went c store store′ r) where
+    nulled : Acted (becomes NULL) went c₀ store store′ r
+    nulled = rw e at a
+
+    pub null-stays : r ≡ Stays → Change true (becomes NULL) ρ went n i cells store report c₀ cells store′ report (Going c₀)
+    null-stays q = record { out = stayed (node-live g) true ρ went ((rw q at nulled) .out) }
+
+    pub null-becomes : {k : ℕ} → r ≡ Becomes k → {cells′ : List ℕ} {report′ : Text} {c′ : Counters} → Entered ρ i went k cells report c₀ cells′ report′ c′
+        → Change true (becomes NULL) ρ went n i cells store report c₀ cells′ store′ report′ (Going c′)
+    null-becomes q w = record { out = entered (node-live g) true ρ went ((rw q at nulled) .out) w (λ x. clash x) (λ x. null-few nulled q) }
+
+    pub null-long : r ≡ TooLong → {cells′ : List ℕ} {report′ : Text} → Change true (becomes NULL) ρ went n i cells store report c₀ cells′ store′ report′ (Stopped MessageTooLong)
+    null-long q = record { out = overran (becomes NULL) ρ went report ((rw q at nulled) .out) }
 
 -- ---- the node becomes one null leaf, unless it is that already
 

@@ -9,9 +9,9 @@ use redact_4_leaf::leaf::enter;
 use redact_4_leaf::learn::learn_at;
 use redact_5_act::act::Fate;
 use redact_5_act::act::put_null;
-use redact_5_act::state::Counters;
-use redact_5_act::state::Done;
 use redact_5_act::state::Setting;
+use redact_5_act::state::Step;
+use redact_5_act::state::read_tally;
 use redact_6_row::reach::Reach;
 use redact_6_row::reach::reach_of;
 use redact_6_row::reach::starts;
@@ -30,6 +30,7 @@ ghost use Rattle.er7_table.specs.Table.{placeAt, asLabel};
 ghost use Rattle.er7_render.specs.Stored.{liveLen, liveSum};
 ghost use Rattle.redact_6_row.specs.Reach.{asReach, startsAt};
 ghost use Rattle.redact_5_act.specs.Known.{GoodKnown};
+ghost use Rattle.redact_5_act.specs.State.{counted, afterStep};
 ghost use Rattle.redact_4_leaf.specs.State.{buffers, KnownHeld, Learning, NodeReady, Change};
 ghost use Rattle.redact_4_leaf.specs.Visit.{rulePass, Visit};
 ghost use Rattle.redact_3_node.specs.Node.{nodeEnd, liveTexts, leafSize, leavesSize, Legible, AllLegible, already};
@@ -96,16 +97,16 @@ fn learn_live(
     store: &[u8; 98304],
     bytes: &mut [u8; 65536],
     known: &mut [usize; 4096],
-    c: Counters,
-) -> Done
-    requires { ⌜ Legible (now cells) (now bytes) (now known) i c ⌝ }
-    ensures { λ r. ⌜ ((text : Text) → ActionHeld text a → KnownHeld text (now (bytes .entry)) (now (known .entry)) c → Learning (learning (on .separators) (asAction text a) (liveTexts (now (cells .entry)) (now (store .entry)) i 1)) (on .sweep) text (now (bytes .entry)) (now (known .entry)) c (now (bytes .exit)) (now (known .exit)) r) ⌝ }
+    tally: &mut [usize; 6],
+) -> Step
+    requires { ⌜ Legible (now cells) (now bytes) (now known) i (counted (now tally)) ⌝ }
+    ensures { λ r. ⌜ ((text : Text) → ActionHeld text a → KnownHeld text (now (bytes .entry)) (now (known .entry)) (counted (now (tally .entry))) → Learning (learning (on .separators) (asAction text a) (liveTexts (now (cells .entry)) (now (store .entry)) i 1)) (on .sweep) text (now (bytes .entry)) (now (known .entry)) (counted (now (tally .entry))) (now (bytes .exit)) (now (known .exit)) (afterStep (counted (now (tally .exit))) r)) ⌝ }
 {
     let row = i * 8;
     if cells[row + 3] != 0 {
-        return Done::Going(c);
+        return Step::Made;
     }
-    learn_at(on, a, i, cells, store, bytes, known, c)
+    learn_at(on, a, i, cells, store, bytes, known, tally)
 }
 
 // Learns what the leaves from leaf first to before leaf end say that have not vanished.
@@ -118,25 +119,22 @@ fn learn_all(
     store: &[u8; 98304],
     bytes: &mut [u8; 65536],
     known: &mut [usize; 4096],
-    c: Counters,
-) -> Done
-    requires { ⌜ AllLegible (now cells) first end × GoodKnown (now bytes) (now known) (c .known) (c .«known_used») ⌝ }
-    ensures { λ r. ⌜ ((text : Text) → ActionHeld text a → KnownHeld text (now (bytes .entry)) (now (known .entry)) c → Learning (learning (on .separators) (asAction text a) (liveTexts (now (cells .entry)) (now (store .entry)) first (end - first))) (on .sweep) text (now (bytes .entry)) (now (known .entry)) c (now (bytes .exit)) (now (known .exit)) r) ⌝ }
+    tally: &mut [usize; 6],
+) -> Step
+    requires { ⌜ AllLegible (now cells) first end × GoodKnown (now bytes) (now known) (counted (now tally) .known) (counted (now tally) .«known_used») ⌝ }
+    ensures { λ r. ⌜ ((text : Text) → ActionHeld text a → KnownHeld text (now (bytes .entry)) (now (known .entry)) (counted (now (tally .entry))) → Learning (learning (on .separators) (asAction text a) (liveTexts (now (cells .entry)) (now (store .entry)) first (end - first))) (on .sweep) text (now (bytes .entry)) (now (known .entry)) (counted (now (tally .entry))) (now (bytes .exit)) (now (known .exit)) (afterStep (counted (now (tally .exit))) r)) ⌝ }
 {
-    let mut state = c;
     let mut i = first;
     while i < end {
-        match learn_live(on, a, i, cells, store, bytes, known, state) {
-            Done::Going(next) => {
-                state = next;
-            }
-            Done::Stopped(refusal) => {
-                return Done::Stopped(refusal);
+        match learn_live(on, a, i, cells, store, bytes, known, tally) {
+            Step::Made => {}
+            Step::Refused(refusal) => {
+                return Step::Refused(refusal);
             }
         }
         i += 1;
     }
-    Done::Going(state)
+    Step::Made
 }
 
 // Makes the null the text of a leaf, with its row, where went bytes of the message go.
@@ -149,15 +147,18 @@ fn enter_null(
     cells: &mut [usize],
     store: &mut [u8; 98304],
     report: &mut [u8],
-    c: Counters,
-) -> Done
-    requires { ⌜ ActionHeld (now text) a × NodeReady (now cells) (now store) n (at .index) (at .end) c × (length (now text) ≤ 32768) ⌝ }
-    ensures { λ r. ⌜ Change true (becomes NULL) (row (asLabel (at .label)) (placeAt (now (cells .entry)) (at .index)) (asAction (now (text .entry)) a)) went n (at .index) (now (cells .entry)) (now (store .entry)) (now (report .entry)) c (now (cells .exit)) (now (store .exit)) (now (report .exit)) r ⌝ }
+    tally: &mut [usize; 6],
+) -> Step
+    requires { ⌜ ActionHeld (now text) a × NodeReady (now cells) (now store) n (at .index) (at .end) (counted (now tally)) × (length (now text) ≤ 32768) ⌝ }
+    ensures { λ r. ⌜ Change true (becomes NULL) (row (asLabel (at .label)) (placeAt (now (cells .entry)) (at .index)) (asAction (now (text .entry)) a)) went n (at .index) (now (cells .entry)) (now (store .entry)) (now (report .entry)) (counted (now (tally .entry))) (now (cells .exit)) (now (store .exit)) (now (report .exit)) (afterStep (counted (now (tally .exit))) r) ⌝ }
 {
-    match put_null(store, went, c) {
-        Fate::Stays => Done::Going(c),
-        Fate::Becomes(came) => Done::Going(enter(at, a, text, went, came, cells, report, c)),
-        Fate::TooLong => Done::Stopped(Refusal::MessageTooLong),
+    match put_null(store, went, read_tally(tally)) {
+        Fate::Stays => Step::Made,
+        Fate::Becomes(came) => {
+            enter(at, a, text, went, came, cells, report, tally);
+            Step::Made
+        }
+        Fate::TooLong => Step::Refused(Refusal::MessageTooLong),
     }
 }
 
@@ -170,10 +171,10 @@ fn null_node(
     cells: &mut [usize],
     store: &mut [u8; 98304],
     report: &mut [u8],
-    c: Counters,
-) -> Done
-    requires { ⌜ ActionHeld (now text) a × NodeReady (now cells) (now store) n (at .index) (at .end) c × (length (now text) ≤ 32768) ⌝ }
-    ensures { λ r. ⌜ Change true (collapse true (already (now (cells .entry)) (now (store .entry)) (at .index) (at .end))) (row (asLabel (at .label)) (placeAt (now (cells .entry)) (at .index)) (asAction (now (text .entry)) a)) (size (liveTexts (now (cells .entry)) (now (store .entry)) (at .index) (at .end - at .index)) - 1) n (at .index) (now (cells .entry)) (now (store .entry)) (now (report .entry)) c (now (cells .exit)) (now (store .exit)) (now (report .exit)) r ⌝ }
+    tally: &mut [usize; 6],
+) -> Step
+    requires { ⌜ ActionHeld (now text) a × NodeReady (now cells) (now store) n (at .index) (at .end) (counted (now tally)) × (length (now text) ≤ 32768) ⌝ }
+    ensures { λ r. ⌜ Change true (collapse true (already (now (cells .entry)) (now (store .entry)) (at .index) (at .end))) (row (asLabel (at .label)) (placeAt (now (cells .entry)) (at .index)) (asAction (now (text .entry)) a)) (size (liveTexts (now (cells .entry)) (now (store .entry)) (at .index) (at .end - at .index)) - 1) n (at .index) (now (cells .entry)) (now (store .entry)) (now (report .entry)) (counted (now (tally .entry))) (now (cells .exit)) (now (store .exit)) (now (report .exit)) (afterStep (counted (now (tally .exit))) r) ⌝ }
 {
     let i = at.index;
     let row = i * 8;
@@ -183,9 +184,9 @@ fn null_node(
     let rest = leaves_size(i + 1, at.end, cells);
     let all = &store[..];
     if is_null(&all[start..stop]) & (rest == 0) {
-        return Done::Going(c);
+        return Step::Made;
     }
-    enter_null(at, n, a, text, len + rest, cells, store, report, c)
+    enter_null(at, n, a, text, len + rest, cells, store, report, tally)
 }
 
 // The collapse of the node whose first leaf this is, in a segment whose leaves end before index at.end.
@@ -199,25 +200,25 @@ fn collapse_node(
     report: &mut [u8],
     bytes: &mut [u8; 65536],
     known: &mut [usize; 4096],
-    c: Counters,
-) -> Done
-    requires { ⌜ ActionHeld (now text) (rule .action) × (isNode (reach (asRule (now text) rule)) ≡ true) × (covers (asRule (now text) rule) (asLabel (at .label)) (placeAt (now cells) (at .index)) ≡ true) × (startsAt (reach (asRule (now text) rule)) (placeAt (now cells) (at .index)) ≡ true) × NodeReady (now cells) (now store) (on .leaves) (at .index) (at .end) c × KnownHeld (now text) (now bytes) (now known) c × (length (now text) ≤ 32768) × (on .leaves ≤ 4096) ⌝ }
-    ensures { λ r. ⌜ ((named : List Bool) → Visit (λ ks. rulePass (on .key) (on .separators) (asRule (now (text .entry)) rule)) true on at (now (text .entry)) (buffers named (now (cells .entry)) (now (store .entry)) (now (report .entry)) (now (bytes .entry)) (now (known .entry))) c (buffers named (now (cells .exit)) (now (store .exit)) (now (report .exit)) (now (bytes .exit)) (now (known .exit))) r) ⌝ }
+    tally: &mut [usize; 6],
+) -> Step
+    requires { ⌜ ActionHeld (now text) (rule .action) × (isNode (reach (asRule (now text) rule)) ≡ true) × (covers (asRule (now text) rule) (asLabel (at .label)) (placeAt (now cells) (at .index)) ≡ true) × (startsAt (reach (asRule (now text) rule)) (placeAt (now cells) (at .index)) ≡ true) × NodeReady (now cells) (now store) (on .leaves) (at .index) (at .end) (counted (now tally)) × KnownHeld (now text) (now bytes) (now known) (counted (now tally)) × (length (now text) ≤ 32768) × (on .leaves ≤ 4096) ⌝ }
+    ensures { λ r. ⌜ ((named : List Bool) → Visit (λ ks. rulePass (on .key) (on .separators) (asRule (now (text .entry)) rule)) true on at (now (text .entry)) (buffers named (now (cells .entry)) (now (store .entry)) (now (report .entry)) (now (bytes .entry)) (now (known .entry))) (counted (now (tally .entry))) (buffers named (now (cells .exit)) (now (store .exit)) (now (report .exit)) (now (bytes .exit)) (now (known .exit))) (afterStep (counted (now (tally .exit))) r)) ⌝ }
 {
     let a = rule.action;
     let i = at.index;
     let label = at.label;
     let end = node_end(reach_of(rule), i, at.end, cells);
-    match learn_all(on, a, i, end, cells, store, bytes, known, c) {
-        Done::Going(next) => {
+    match learn_all(on, a, i, end, cells, store, bytes, known, tally) {
+        Step::Made => {
             let node = Spot {
                 label,
                 end,
                 index: i,
             };
-            null_node(node, on.leaves, a, text, cells, store, report, next)
+            null_node(node, on.leaves, a, text, cells, store, report, tally)
         }
-        Done::Stopped(refusal) => Done::Stopped(refusal),
+        Step::Refused(refusal) => Step::Refused(refusal),
     }
 }
 
@@ -232,15 +233,26 @@ pub fn collapse_leaf(
     report: &mut [u8],
     bytes: &mut [u8; 65536],
     known: &mut [usize; 4096],
-    c: Counters,
-) -> Done
-    requires { ⌜ ActionHeld (now text) (rule .action) × (isNode (reach (asRule (now text) rule)) ≡ true) × (covers (asRule (now text) rule) (asLabel (at .label)) (placeAt (now cells) (at .index)) ≡ true) × NodeReady (now cells) (now store) (on .leaves) (at .index) (at .end) c × KnownHeld (now text) (now bytes) (now known) c × (length (now text) ≤ 32768) × (on .leaves ≤ 4096) ⌝ }
-    ensures { λ r. ⌜ ((named : List Bool) → Visit (λ ks. rulePass (on .key) (on .separators) (asRule (now (text .entry)) rule)) true on at (now (text .entry)) (buffers named (now (cells .entry)) (now (store .entry)) (now (report .entry)) (now (bytes .entry)) (now (known .entry))) c (buffers named (now (cells .exit)) (now (store .exit)) (now (report .exit)) (now (bytes .exit)) (now (known .exit))) r) ⌝ }
+    tally: &mut [usize; 6],
+) -> Step
+    requires { ⌜ ActionHeld (now text) (rule .action) × (isNode (reach (asRule (now text) rule)) ≡ true) × (covers (asRule (now text) rule) (asLabel (at .label)) (placeAt (now cells) (at .index)) ≡ true) × NodeReady (now cells) (now store) (on .leaves) (at .index) (at .end) (counted (now tally)) × KnownHeld (now text) (now bytes) (now known) (counted (now tally)) × (length (now text) ≤ 32768) × (on .leaves ≤ 4096) ⌝ }
+    ensures { λ r. ⌜ ((named : List Bool) → Visit (λ ks. rulePass (on .key) (on .separators) (asRule (now (text .entry)) rule)) true on at (now (text .entry)) (buffers named (now (cells .entry)) (now (store .entry)) (now (report .entry)) (now (bytes .entry)) (now (known .entry))) (counted (now (tally .entry))) (buffers named (now (cells .exit)) (now (store .exit)) (now (report .exit)) (now (bytes .exit)) (now (known .exit))) (afterStep (counted (now (tally .exit))) r)) ⌝ }
 {
     let i = at.index;
     if !starts(reach_of(rule), place_at(cells, i)) {
         set_gone(cells, i);
-        return Done::Going(c);
+        return Step::Made;
     }
-    collapse_node(on, at, rule, text, cells, store, report, bytes, known, c)
+    collapse_node(
+        on,
+        at,
+        rule,
+        text,
+        cells,
+        store,
+        report,
+        bytes,
+        known,
+        tally,
+    )
 }

@@ -11,18 +11,19 @@ use Rattle.text.specs.Text.{Text, part, SameTo}
 use Rattle.text.proofs.Laws.{clash}
 use Rattle.text.proofs.Kept.{part-length}
 use Rattle.refusal.specs.declared.Refusal.the-variants.{MessageTooLong}
-use Rattle.run_model.specs.Redact.{Fate, stays, after, Row, changing, Known, Book, stopped, booked, bookAll}
+use Rattle.run_model.specs.Redact.{Fate, stays, after, Row, changing, Known, Book, stopped, booked, bookAll, printRow}
 use Rattle.er7_table.specs.Table.{cell, textAt, Good}
 use Rattle.er7_render.specs.Stored.{TextSet, liveLen}
 use Rattle.er7_render.proofs.Slots.{good-more, set-good, kept-text, kept-good}
 use Rattle.er7_render.proofs.Sums.{lens-kept}
+use Rattle.redact_6_row.specs.Report.{RowAt}
 use Rattle.redact_6_row.proofs.Rows.{reported-more}
 use Rattle.redact_5_act.specs.Act.{LeafHeld, Became, Overran, ActedBeside}
 use Rattle.redact_5_act.specs.declared.act.Fate.{Fate as HeldFate}
 use Rattle.redact_5_act.specs.declared.act.Fate.the-variants.{Stays, Becomes, TooLong}
 use Rattle.redact_5_act.specs.declared.state.Counters.{Counters}
 use Rattle.redact_5_act.specs.declared.state.Done.the-variants.{Going, Stopped}
-use Rattle.redact_4_leaf.specs.State.{textOf, Booked, Ready, NodeReady, Entered, Changed, ActedOn}
+use Rattle.redact_4_leaf.specs.State.{textOf, Booked, Ready, NodeReady, Countable, Entered, Changed, ActedOn}
 
 -- ---- a leaf that has not vanished
 
@@ -49,6 +50,17 @@ live-length cells i e = rw e
 pub text-length : {cells : List ℕ} {store : Text} {n used : ℕ} → Good cells store n used → (i : ℕ) → i < n → length (textOf cells store i) ≡ cell cells i 2
 unfolding textOf
 text-length {cells} {store} g i h = part-length store (cell cells i 1) (cell cells i 2) (omega (arith, g .ends i h, g .room))
+
+-- ---- counters, read and written
+
+pub countable-by : {came : ℕ} {c c₀ : Counters} → c ≡ c₀ → Countable came c₀ → Countable came c
+countable-by e k = rw e k
+
+pub entered-by : {ρ : Row} {i went came m : ℕ} {cells cells′ : List ℕ} {report report′ : Text} {c c₀ c₁ : Counters} → c ≡ c₀ → TextSet cells i (c .used) came cells′
+    → RowAt report (c .«report_len») (printRow ρ) report′ m → m ≤ c .«report_len» + 65536
+    → c₁ ≡ record { rows = c .rows + 1; «report_len» = m; size = c .size - went + came; used = c .used + came; known = c .known; «known_used» = c .«known_used» }
+    → Entered ρ i went came cells report c₀ cells′ report′ c₁
+entered-by e t r most q = rw (← e, q) (record { set = t; row = r; row-most = most; rows = refl; size = refl; used = refl; known = refl; known-used = refl })
 
 -- ---- what becomes of a leaf
 
@@ -124,23 +136,28 @@ overran {c} F ρ went report o sweep ks b k = rw (k .is, o .is, lt-ltb 49152 (c 
 
 -- ---- by the answer of `act`
 
-pub became-few : {F : Fate} {went : ℕ} {c : Counters} {store store′ bytes bytes′ : Text} {r : HeldFate} {k : ℕ} → ActedBeside F went c store store′ bytes bytes′ r → r ≡ Becomes k → k ≤ 49152
-became-few a q = omega (arith, (rw q at a) .out .few)
-
-module _ {cells : List ℕ} {store : Text} {n i : ℕ} {c : Counters} (g : Ready cells store n i c) where
+module _ {cells : List ℕ} {store : Text} {n i : ℕ} {c₀ c : Counters} (e : c ≡ c₀) (g : Ready cells store n i c₀) where
   pub leaf-held : LeafHeld (cell cells i 1) (cell cells i 2) c
-  leaf-held = record { inside = g .good .ends i (g .inside); room = g .room }
+  leaf-held = rw e (record { inside = g .good .ends i (g .inside); room = g .room })
+
+  pub acted-countable : {F : Fate} {store′ bytes bytes′ : Text} {r : HeldFate} → ActedBeside F (cell cells i 2) c store store′ bytes bytes′ r → {k : ℕ} → r ≡ Becomes k → Countable k c₀
+  acted-countable a q =
+      let few = (rw q at a) .out .few in
+      record { rows = g .rows; report = g .report; size = g .room .most; used = omega (arith, g .room .room); text = omega (arith, few) }
 
   module _ (F : Fate) (ρ : Row) (report : Text) {store′ bytes bytes′ : Text} {r : HeldFate} (a : ActedBeside F (cell cells i 2) c store store′ bytes bytes′ r) where
-    pub acted-stays : r ≡ Stays → ActedOn F ρ n i cells store report bytes c cells store′ report bytes′ (Going c)
-    acted-stays q = record { change = record { out = stayed (ready-live g) false ρ _ ((rw q at a) .out) }; beside = a .beside }
+    acted : ActedBeside F (cell cells i 2) c₀ store store′ bytes bytes′ r
+    acted = rw e at a
 
-    pub acted-becomes : {k : ℕ} → r ≡ Becomes k → {cells′ : List ℕ} {report′ : Text} {c′ : Counters} → Entered ρ i (cell cells i 2) k cells report c cells′ report′ c′
-        → ActedOn F ρ n i cells store report bytes c cells′ store′ report′ bytes′ (Going c′)
-    acted-becomes q e = record {
-      change = record { out = entered (ready-live g) false ρ _ ((rw q at a) .out) e (λ x. (refl, g .room .within)) (λ x. clash (sym x)) };
-      beside = a .beside;
+    pub acted-stays : r ≡ Stays → ActedOn F ρ n i cells store report bytes c₀ cells store′ report bytes′ (Going c₀)
+    acted-stays q = record { change = record { out = stayed (ready-live g) false ρ _ ((rw q at acted) .out) }; beside = acted .beside }
+
+    pub acted-becomes : {k : ℕ} → r ≡ Becomes k → {cells′ : List ℕ} {report′ : Text} {c′ : Counters} → Entered ρ i (cell cells i 2) k cells report c₀ cells′ report′ c′
+        → ActedOn F ρ n i cells store report bytes c₀ cells′ store′ report′ bytes′ (Going c′)
+    acted-becomes q w = record {
+      change = record { out = entered (ready-live g) false ρ _ ((rw q at acted) .out) w (λ x. (refl, g .room .within)) (λ x. clash (sym x)) };
+      beside = acted .beside;
     }
 
-    pub acted-long : r ≡ TooLong → {cells′ : List ℕ} {report′ : Text} → ActedOn F ρ n i cells store report bytes c cells′ store′ report′ bytes′ (Stopped MessageTooLong)
-    acted-long q = record { change = record { out = overran F ρ _ report ((rw q at a) .out) }; beside = a .beside }
+    pub acted-long : r ≡ TooLong → {cells′ : List ℕ} {report′ : Text} → ActedOn F ρ n i cells store report bytes c₀ cells′ store′ report′ bytes′ (Stopped MessageTooLong)
+    acted-long q = record { change = record { out = overran F ρ _ report ((rw q at acted) .out) }; beside = acted .beside }

@@ -19,7 +19,7 @@ use Rattle.redact_5_act.specs.declared.known.Learnt.{Learnt}
 use Rattle.redact_5_act.specs.declared.known.Learnt.the-variants.{Kept, Full}
 use Rattle.redact_5_act.specs.declared.state.Counters.{Counters}
 use Rattle.redact_5_act.specs.declared.state.Done.the-variants.{Going, Stopped}
-use Rattle.redact_4_leaf.specs.State.{knownNow, KnownHeld, LearntTo, Learning}
+use Rattle.redact_4_leaf.specs.State.{knownNow, KnownHeld, LearntTo, Learning, Readable}
 
 -- events that leave the book teach nothing
 pub learnt-none : (es : List Event) (sweep : Bool) {text bytes : Text} {known : List ℕ} {c : Counters} → ((b : Book) → bookAll sweep es b ≡ b)
@@ -53,6 +53,9 @@ pub learning-off : (s : Separators) (a : Action) (ts : List Text) (sweep : Bool)
     → KnownHeld text bytes known c → Learning (learning s a ts) sweep text bytes known c bytes known (Going c)
 learning-off s a ts sweep e h = record { out = learnt-none (learning s a ts) sweep (λ b. rw e (learn-off s a ts b)) h }
 
+pub readable-by : {cells : List ℕ} {bytes : Text} {known : List ℕ} {i : ℕ} {c c₀ : Counters} → c ≡ c₀ → Readable cells bytes known i c₀ → Readable cells bytes known i c
+readable-by e g = rw e g
+
 -- a leaf's text, lent as a part of the store
 module _ (s : Separators) (store : Text) (start len : ℕ) {a : HeldAction} {bytes bytes′ : Text} {known known′ : List ℕ} (c : Counters) {r : Learnt}
     (l : Learns (learnLeaf s (take (start + len - start) (drop start store)) a) a bytes known (c .known) (c .«known_used») bytes′ known′ r) (sweep : Bool) (on : sweep ≡ true) (text : Text) where
@@ -60,11 +63,11 @@ module _ (s : Separators) (store : Text) (start len : ℕ) {a : HeldAction} {byt
   unfolding learnLeaf
   books k z = rw (on, ← part-slice store start len) (l .book text k z)
 
-  pub learning-kept : {n used : ℕ} → r ≡ Kept n used → ActionHeld text a → KnownHeld text bytes known c
+  kept-to : {n used : ℕ} → r ≡ Kept n used → ActionHeld text a → KnownHeld text bytes known c
       → Learning (learning s (asAction text a) (part store start len ∷ [])) sweep text bytes known c bytes′ known′
       (Going (record { rows = c .rows; «report_len» = c .«report_len»; size = c .size; used = c .used; known = n; «known_used» = used }))
   unfolding knownNow bookOf
-  learning-kept e q h = record {
+  kept-to e q h = record {
     out = record {
       rows = refl;
       report = refl;
@@ -80,6 +83,12 @@ module _ (s : Separators) (store : Text) (start len : ℕ) {a : HeldAction} {byt
     };
   }
 
-  pub learning-full : r ≡ Full → Learning (learning s (asAction text a) (part store start len ∷ [])) sweep text bytes known c bytes′ known′ (Stopped TooMuchLearnt)
+  -- by the counters that were read, and those that were written
+  pub learning-kept : {c₀ c₁ : Counters} → c ≡ c₀ → {n used : ℕ} → r ≡ Kept n used → ActionHeld text a → KnownHeld text bytes known c₀
+      → c₁ ≡ record { rows = c .rows; «report_len» = c .«report_len»; size = c .size; used = c .used; known = n; «known_used» = used }
+      → Learning (learning s (asAction text a) (part store start len ∷ [])) sweep text bytes known c₀ bytes′ known′ (Going c₁)
+  learning-kept e p q h w = rw (← e, w) (kept-to p q (rw (← e) at h))
+
+  pub learning-full : {c₀ : Counters} → c ≡ c₀ → r ≡ Full → Learning (learning s (asAction text a) (part store start len ∷ [])) sweep text bytes known c₀ bytes′ known′ (Stopped TooMuchLearnt)
   unfolding knownNow bookOf
-  learning-full e = record { out = λ report b k. rw (k .is) (books (k .rows) (c .size) ∙ rw e) }
+  learning-full e p = rw (← e) (record { out = λ report b k. rw (k .is) (books (k .rows) (c .size) ∙ rw p) })

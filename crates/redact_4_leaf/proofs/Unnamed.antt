@@ -104,16 +104,20 @@ module _ (on : Setting) (at : Spot) (text : Text) (named : List Bool) (cells : L
         leaf = unfold after unnamedPass leafAt in rw (live-text cells store (at .index) (w .live)) (sym (pick-none (on .key) (on .separators) (pick (knownNow text bytes known c)) (asLabel (at .label)) (placeAt cells (at .index)) (marked named (at .index)) here behind q .0));
       }
 
--- what the sweep takes for a leaf, by the row that the code found
-module _ (s : Separators) (text : Text) {bytes bytes′ : Text} {known : List ℕ} (c : Counters) (store : Text) (start len : ℕ) {r : ℕ}
+-- what the sweep takes for a leaf, by the row that the code found for the counters that it read
+module _ (s : Separators) (text : Text) {bytes bytes′ : Text} {known : List ℕ} {c₀ : Counters} (c : Counters) (e : c ≡ c₀) (store : Text) (start len : ℕ) {r : ℕ}
     (f : Swept s (take (start + len - start) (drop start store)) bytes bytes′ known (c .known) (c .«known_used») r) where
-  pub swept-none : r ≡ c .known → forSweep s (knownNow text bytes known c) (part store start len) ≡ none
+  pub swept-none : r ≡ c .known → forSweep s (knownNow text bytes known c₀) (part store start len) ≡ none
   unfolding knownNow sweptIn
-  swept-none e = rw (← part-slice store start len) (f .found .missed e text)
+  swept-none q = rw (← e, ← part-slice store start len) (f .found .missed q text)
 
-  pub swept-some : (r ≡ c .known → ⊥) → forSweep s (knownNow text bytes known c) (part store start len) ≡ some (asAction text (actionAt known r))
+  pub swept-some : (r ≡ c .known → ⊥) → forSweep s (knownNow text bytes known c₀) (part store start len) ≡ some (asAction text (actionAt known r))
   unfolding knownNow sweptIn
-  swept-some e = rw (← part-slice store start len) (f .found .found (omega (arith, f .found .high)) text)
+  swept-some q = rw (← e, ← part-slice store start len) (f .found .found (omega (arith, f .found .high)) text)
 
-pub swept-held : {s : Separators} {t text bytes bytes′ : Text} {known : List ℕ} {c : Counters} {r : ℕ} → Swept s t bytes bytes′ known (c .known) (c .«known_used») r → (r ≡ c .known → ⊥) → KnownHeld text bytes known c → ActionHeld text (actionAt known r)
-swept-held {r = r} f e h = h .held .held r (omega (arith, f .found .high))
+module _ {s : Separators} {t bytes bytes′ : Text} {known : List ℕ} {c₀ c : Counters} (e : c ≡ c₀) {r : ℕ} (f : Swept s t bytes bytes′ known (c .known) (c .«known_used») r) where
+  pub swept-beside : SameTo (c₀ .«known_used») bytes bytes′
+  swept-beside = rw (← e) (f .beside)
+
+  pub swept-held : {text : Text} → (r ≡ c .known → ⊥) → KnownHeld text bytes known c₀ → ActionHeld text (actionAt known r)
+  swept-held q h = (rw (← e) at h) .held .held r (omega (arith, f .found .high))

@@ -119,6 +119,14 @@ pub record Ready (cells : List ℕ) (store : Text) (n i : ℕ) (c : Counters) : 
   pub rows : c .rows ≤ 2 ^ 32
   pub report : c .«report_len» ≤ 2 ^ 48
 
+-- a row, and a text of `came` bytes, can be counted
+pub record Countable (came : ℕ) (c : Counters) : Type 0 where
+  pub rows : c .rows ≤ 2 ^ 32
+  pub report : c .«report_len» ≤ 2 ^ 48
+  pub size : c .size ≤ 49152
+  pub used : c .used ≤ 98304
+  pub text : came ≤ 49152
+
 -- leaf i, of which `went` bytes went and `came` bytes came, was entered in the table and in the report
 pub record Entered (ρ : Row) (i went came : ℕ) (cells : List ℕ) (report : Text) (c : Counters) (cells′ : List ℕ) (report′ : Text) (c′ : Counters) : Type 0 where
   pub set : TextSet cells i (c .used) came cells′

@@ -6,9 +6,11 @@ use er7_table::table::place_at;
 use redact_5_act::act::Fate;
 use redact_5_act::act::act;
 use redact_5_act::state::Counters;
-use redact_5_act::state::Done;
 use redact_5_act::state::Setting;
+use redact_5_act::state::Step;
 use redact_5_act::state::less;
+use redact_5_act::state::read_tally;
+use redact_5_act::state::write_tally;
 use redact_6_row::report::row_at;
 use refusal::Refusal;
 ghost use Prim.Native.Nat.{_+_, _*_, _≤_, _<_, _^_};
@@ -17,7 +19,8 @@ ghost use Rattle.er7_redact.specs.Action.{asAction, ActionHeld};
 ghost use Rattle.run_model.specs.Redact.{row};
 ghost use Rattle.run_model.specs.Redact as Redact;
 ghost use Rattle.er7_table.specs.Table.{placeAt, asLabel};
-ghost use Rattle.redact_4_leaf.specs.State.{textOf, Ready, Entered, Marked, ActedOn};
+ghost use Rattle.redact_5_act.specs.State.{counted, afterStep};
+ghost use Rattle.redact_4_leaf.specs.State.{textOf, Ready, Countable, Entered, Marked, ActedOn};
 
 // Where a leaf stands: in a segment with that label, whose leaves end before index end, at that index.
 pub struct Spot {
@@ -43,24 +46,29 @@ pub fn enter(
     came: usize,
     cells: &mut [usize],
     report: &mut [u8],
-    c: Counters,
-) -> Counters
-    requires { ⌜ ActionHeld (now text) a × (at .index * 8 + 8 ≤ length (now cells)) × (c .size + came < 2 ^ 64) × (c .used + came < 2 ^ 64) × (c .rows + 1 < 2 ^ 64) × (c .«report_len» + 65536 < 2 ^ 64) × (length (now text) ≤ 32768) ⌝ }
-    ensures { λ r. ⌜ Entered (row (asLabel (at .label)) (placeAt (now (cells .entry)) (at .index)) (asAction (now (text .entry)) a)) (at .index) went came (now (cells .entry)) (now (report .entry)) c (now (cells .exit)) (now (report .exit)) r ⌝ }
+    tally: &mut [usize; 6],
+)
+    requires { ⌜ ActionHeld (now text) a × (at .index * 8 + 8 ≤ length (now cells)) × Countable came (counted (now tally)) × (length (now text) ≤ 32768) ⌝ }
+    ensures { λ _. ⌜ Entered (row (asLabel (at .label)) (placeAt (now (cells .entry)) (at .index)) (asAction (now (text .entry)) a)) (at .index) went came (now (cells .entry)) (now (report .entry)) (counted (now (tally .entry))) (now (cells .exit)) (now (report .exit)) (counted (now (tally .exit))) ⌝ }
 {
+    let c = read_tally(tally);
     let used = c.used;
     let i = at.index;
     let p = place_at(cells, i);
     set_text(cells, i, used, came);
     let report_len = row_at(report, c.report_len, at.label, p, a, text);
-    Counters {
-        rows: c.rows + 1,
-        report_len,
-        size: less(c.size, went) + came,
-        used: used + came,
-        known: c.known,
-        known_used: c.known_used,
-    }
+    let size = less(c.size, went) + came;
+    write_tally(
+        tally,
+        Counters {
+            rows: c.rows + 1,
+            report_len,
+            size,
+            used: used + came,
+            known: c.known,
+            known_used: c.known_used,
+        },
+    );
 }
 
 // The action a on a leaf: its new text, and its row.
@@ -73,17 +81,20 @@ pub fn act_on(
     store: &mut [u8; 98304],
     report: &mut [u8],
     bytes: &mut [u8; 65536],
-    c: Counters,
-) -> Done
-    requires { ⌜ ActionHeld (now text) a × Ready (now cells) (now store) (on .leaves) (at .index) c × (length (now text) ≤ 32768) ⌝ }
-    ensures { λ r. ⌜ ActedOn (Redact.act (on .key) (on .separators) (asAction (now (text .entry)) a) (textOf (now (cells .entry)) (now (store .entry)) (at .index))) (row (asLabel (at .label)) (placeAt (now (cells .entry)) (at .index)) (asAction (now (text .entry)) a)) (on .leaves) (at .index) (now (cells .entry)) (now (store .entry)) (now (report .entry)) (now (bytes .entry)) c (now (cells .exit)) (now (store .exit)) (now (report .exit)) (now (bytes .exit)) r ⌝ }
+    tally: &mut [usize; 6],
+) -> Step
+    requires { ⌜ ActionHeld (now text) a × Ready (now cells) (now store) (on .leaves) (at .index) (counted (now tally)) × (length (now text) ≤ 32768) ⌝ }
+    ensures { λ r. ⌜ ActedOn (Redact.act (on .key) (on .separators) (asAction (now (text .entry)) a) (textOf (now (cells .entry)) (now (store .entry)) (at .index))) (row (asLabel (at .label)) (placeAt (now (cells .entry)) (at .index)) (asAction (now (text .entry)) a)) (on .leaves) (at .index) (now (cells .entry)) (now (store .entry)) (now (report .entry)) (now (bytes .entry)) (counted (now (tally .entry))) (now (cells .exit)) (now (store .exit)) (now (report .exit)) (now (bytes .exit)) (afterStep (counted (now (tally .exit))) r) ⌝ }
 {
     let row = at.index * 8;
     let start = cells[row + 1];
     let len = cells[row + 2];
-    match act(on, a, text, start, len, store, bytes, c) {
-        Fate::Stays => Done::Going(c),
-        Fate::Becomes(came) => Done::Going(enter(at, a, text, len, came, cells, report, c)),
-        Fate::TooLong => Done::Stopped(Refusal::MessageTooLong),
+    match act(on, a, text, start, len, store, bytes, read_tally(tally)) {
+        Fate::Stays => Step::Made,
+        Fate::Becomes(came) => {
+            enter(at, a, text, len, came, cells, report, tally);
+            Step::Made
+        }
+        Fate::TooLong => Step::Refused(Refusal::MessageTooLong),
     }
 }

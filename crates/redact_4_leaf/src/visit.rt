@@ -6,9 +6,9 @@ use er7_redact::action::is_keep;
 use er7_redact::policy::Rule;
 use redact_5_act::known::action_at;
 use redact_5_act::known::for_sweep;
-use redact_5_act::state::Counters;
-use redact_5_act::state::Done;
 use redact_5_act::state::Setting;
+use redact_5_act::state::Step;
+use redact_5_act::state::read_tally;
 ghost use mathlib.Core.Path.{_≡_};
 ghost use mathlib.Core.Bool.{Bool, true, false};
 ghost use mathlib.Core.List.{List};
@@ -18,6 +18,7 @@ ghost use Rattle.er7_redact.specs.Action.{ActionHeld};
 ghost use Rattle.er7_redact.specs.Policy.{asRule};
 ghost use Rattle.run_model.specs.Redact.{reach, each-leaf, covers, forSweep, isUnnamed};
 ghost use Rattle.er7_table.specs.Table.{placeAt, asLabel};
+ghost use Rattle.redact_5_act.specs.State.{counted, afterStep};
 ghost use Rattle.redact_4_leaf.specs.State.{buffers, marked, KnownHeld, Ready, Marked};
 ghost use Rattle.redact_4_leaf.specs.Visit.{rulePass, unnamedPass, Visit};
 
@@ -32,18 +33,18 @@ pub fn apply_leaf(
     report: &mut [u8],
     bytes: &mut [u8; 65536],
     known: &mut [usize; 4096],
-    c: Counters,
-) -> Done
-    requires { ⌜ ActionHeld (now text) (rule .action) × (reach (asRule (now text) rule) ≡ each-leaf) × (covers (asRule (now text) rule) (asLabel (at .label)) (placeAt (now cells) (at .index)) ≡ true) × Ready (now cells) (now store) (on .leaves) (at .index) c × KnownHeld (now text) (now bytes) (now known) c × (length (now text) ≤ 32768) × (on .leaves ≤ 4096) ⌝ }
-    ensures { λ r. ⌜ ((named named′ : List Bool) → Marked named (at .index) named′ → Visit (λ ks. rulePass (on .key) (on .separators) (asRule (now (text .entry)) rule)) false on at (now (text .entry)) (buffers named (now (cells .entry)) (now (store .entry)) (now (report .entry)) (now (bytes .entry)) (now (known .entry))) c (buffers named′ (now (cells .exit)) (now (store .exit)) (now (report .exit)) (now (bytes .exit)) (now (known .exit))) r) ⌝ }
+    tally: &mut [usize; 6],
+) -> Step
+    requires { ⌜ ActionHeld (now text) (rule .action) × (reach (asRule (now text) rule) ≡ each-leaf) × (covers (asRule (now text) rule) (asLabel (at .label)) (placeAt (now cells) (at .index)) ≡ true) × Ready (now cells) (now store) (on .leaves) (at .index) (counted (now tally)) × KnownHeld (now text) (now bytes) (now known) (counted (now tally)) × (length (now text) ≤ 32768) × (on .leaves ≤ 4096) ⌝ }
+    ensures { λ r. ⌜ ((named named′ : List Bool) → Marked named (at .index) named′ → Visit (λ ks. rulePass (on .key) (on .separators) (asRule (now (text .entry)) rule)) false on at (now (text .entry)) (buffers named (now (cells .entry)) (now (store .entry)) (now (report .entry)) (now (bytes .entry)) (now (known .entry))) (counted (now (tally .entry))) (buffers named′ (now (cells .exit)) (now (store .exit)) (now (report .exit)) (now (bytes .exit)) (now (known .exit))) (afterStep (counted (now (tally .exit))) r)) ⌝ }
 {
     let a = rule.action;
     if is_keep(a) {
-        return Done::Going(c);
+        return Step::Made;
     }
-    match learn_at(on, a, at.index, cells, store, bytes, known, c) {
-        Done::Going(next) => act_on(on, at, a, text, cells, store, report, bytes, next),
-        Done::Stopped(refusal) => Done::Stopped(refusal),
+    match learn_at(on, a, at.index, cells, store, bytes, known, tally) {
+        Step::Made => act_on(on, at, a, text, cells, store, report, bytes, tally),
+        Step::Refused(refusal) => Step::Refused(refusal),
     }
 }
 
@@ -57,11 +58,12 @@ pub fn sweep_leaf(
     report: &mut [u8],
     bytes: &mut [u8; 65536],
     known: &[usize; 4096],
-    c: Counters,
-) -> Done
-    requires { ⌜ KnownHeld (now text) (now bytes) (now known) c × Ready (now cells) (now store) (on .leaves) (at .index) c × (length (now text) ≤ 32768) × (on .leaves ≤ 4096) ⌝ }
-    ensures { λ r. ⌜ ((named : List Bool) → isUnnamed (asLabel (at .label)) (placeAt (now (cells .entry)) (at .index)) (marked named (at .index)) ≡ true → Visit (λ ks. unnamedPass (on .key) (on .separators) (forSweep (on .separators) ks)) false on at (now (text .entry)) (buffers named (now (cells .entry)) (now (store .entry)) (now (report .entry)) (now (bytes .entry)) (now (known .entry))) c (buffers named (now (cells .exit)) (now (store .exit)) (now (report .exit)) (now (bytes .exit)) (now (known .entry))) r) ⌝ }
+    tally: &mut [usize; 6],
+) -> Step
+    requires { ⌜ KnownHeld (now text) (now bytes) (now known) (counted (now tally)) × Ready (now cells) (now store) (on .leaves) (at .index) (counted (now tally)) × (length (now text) ≤ 32768) × (on .leaves ≤ 4096) ⌝ }
+    ensures { λ r. ⌜ ((named : List Bool) → isUnnamed (asLabel (at .label)) (placeAt (now (cells .entry)) (at .index)) (marked named (at .index)) ≡ true → Visit (λ ks. unnamedPass (on .key) (on .separators) (forSweep (on .separators) ks)) false on at (now (text .entry)) (buffers named (now (cells .entry)) (now (store .entry)) (now (report .entry)) (now (bytes .entry)) (now (known .entry))) (counted (now (tally .entry))) (buffers named (now (cells .exit)) (now (store .exit)) (now (report .exit)) (now (bytes .exit)) (now (known .entry))) (afterStep (counted (now (tally .exit))) r)) ⌝ }
 {
+    let c = read_tally(tally);
     let row = at.index * 8;
     let start = cells[row + 1];
     let end = start + cells[row + 2];
@@ -75,8 +77,8 @@ pub fn sweep_leaf(
         c.known_used,
     );
     if k == c.known {
-        return Done::Going(c);
+        return Step::Made;
     }
     let a = action_at(known, k);
-    act_on(on, at, a, text, cells, store, report, bytes, c)
+    act_on(on, at, a, text, cells, store, report, bytes, tally)
 }

@@ -6,7 +6,7 @@ use mathlib.Core.Option.{some}
 use Prim.Native.Nat.{ℕ, zero, suc, _+_, _-_, _*_, _≤_, _<_}
 use native.Mathlib.Nat.{sub-zero}
 use native.Mathlib.Omega.{arith}
-use lib.ListN.{length, getD, take, drop, set, length-set}
+use lib.ListN.{length, getD, take, drop, set, length-take, length-set}
 use lib.Seq.{getD-set-same, getD-set-other}
 use Rattle.text.specs.Text.{Text, same, part}
 use Rattle.text.proofs.Runs.{part-slice}
@@ -14,9 +14,12 @@ use Rattle.text.proofs.Words.{same-eq}
 use Rattle.er7_redact.specs.declared.action.Action.{Action as HeldAction}
 use Rattle.er7_redact.specs.Action.{asAction}
 use Rattle.message_model.specs.Value.{isWholeWord}
+use Rattle.er7_value.specs.Starts.{Starts}
+use Rattle.er7_value.proofs.Hits.{part-first}
+use Rattle.er7_value.proofs.Starts.{word-unmarked}
 use Rattle.run_model.specs.Redact.{Known, knows, firstFound}
-use Rattle.redact_5_act.specs.Known.{actionOf, hashOf, valueAt, actionAt, knownAt, knownFrom, Slots, GoodKnown, foundIn, FoundAt}
-use Rattle.redact_5_act.specs.Inner.{RowPut}
+use Rattle.redact_5_act.specs.Known.{actionOf, hashOf, valueAt, actionAt, knownAt, knownFrom, Slot, Slots, GoodKnown, foundIn, FoundAt}
+use Rattle.redact_5_act.specs.Inner.{firstMarked, RowPut}
 
 -- two answers that differ
 pub apart : {X : Type 0} → _≡_ {A = ℕ} 0 1 → X
@@ -41,11 +44,26 @@ module _ (t b : Text) (k : List ℕ) where
 pub good-slots : {b : Text} {k : List ℕ} {n used : ℕ} → GoodKnown b k n used → Slots b k n
 good-slots {b} {k} {n} g = record {
   few = g .few;
-  slot = λ i h. record { row = omega (arith, g .few); inside = omega (arith, g .slots i h, g .within); hash = g .hashes i h };
+  slot = λ i h. record { row = omega (arith, g .few); inside = omega (arith, g .slots i h .0, g .within); long = g .slots i h .1; hash = g .hashes i h };
 }
 
 pub word-of-part : (b : Text) (i n : ℕ) (v : Text) {r : Bool} → r ≡ isWholeWord (take (i + n - i) (drop i b)) v → r ≡ isWholeWord (part b i n) v
 word-of-part b i n v e = e ∙ ap (λ (w : Text). isWholeWord w v) (part-slice b i n)
+
+-- the first byte of a row's value
+first-byte : {b : Text} {k : List ℕ} {i : ℕ} → Slot b k i → getD (valueAt b k i) 0 0 ≡ getD b (getD k (i * 8 + 1) 0) 0
+unfolding valueAt part
+first-byte {b} {k} {i} g = part-first b (getD k (i * 8 + 1) 0) (getD k (i * 8 + 2) 0) (let h = simp length-take at (g .long) in omega (arith, h))
+
+-- whether it is marked; where it is not, the value is no word
+module _ {b : Text} {k : List ℕ} {i : ℕ} (starts : List Bool) (g : Slot b k i) where
+  pub first-mark : getD starts (getD b (getD k (i * 8 + 1) 0) 0) false ≡ firstMarked starts (valueAt b k i)
+  unfolding firstMarked
+  first-mark = ap (λ (x : ℕ). getD starts x false) (sym (first-byte g))
+
+  pub not-marked : {v : Text} → Starts v starts → firstMarked starts (valueAt b k i) ≡ false → false ≡ isWholeWord (valueAt b k i) v
+  unfolding firstMarked
+  not-marked {v} s e = sym (word-unmarked (valueAt b k i) v s (omega (arith, g .long)) e)
 
 -- texts with different hashes differ
 pub other-hash : (w v : Text) {x h : ℕ} → h ≡ hashOf w → x ≡ hashOf v → (x ≡ h → ⊥) → false ≡ same w v

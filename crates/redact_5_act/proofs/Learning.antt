@@ -2,23 +2,25 @@
 use mathlib.Core.Path.{_≡_, refl, sym, ap, ap₂, _∙_}
 use mathlib.Core.Bool.{Bool, true, false, _||_}
 use mathlib.Core.List.{List, [], _∷_, _++_}
+use mathlib.Core.Option.{Option, none}
 use Prim.Native.Nat.{ℕ, zero, suc, _+_, _-_, _*_, _≤_, _<_}
 use native.Mathlib.Nat.{add-zero}
 use native.Mathlib.Omega.{arith}
-use borrow.Author.Tests.{lt-ltb, le-ltb, leb-false, ltb-false}
+use borrow.Author.Tests.{lt-ltb, le-ltb, leb-false, ltb-true, ltb-false}
 use lib.ListN.{length, getD}
 use lib.Dec.{leb, ltb}
 use Rattle.text.specs.Text.{Text, lower, part, between, Wrote, SameTo}
 use Rattle.text.proofs.Kept.{same-all, same-then, part-same, wrote-same, wrote-between}
-use Rattle.text.proofs.Laws.{split}
+use Rattle.text.proofs.Laws.{split, or-true, by-cond}
 use Rattle.text.proofs.Runs.{between-length}
 use Rattle.text.proofs.Words.{lower-length}
 use Rattle.er7.specs.declared.separators.Separators.{Separators}
 use Rattle.er7_redact.specs.declared.action.Action.{Action as HeldAction}
-use Rattle.er7_redact.specs.Action.{asAction, ActionHeld, isKeep}
+use Rattle.er7_redact.specs.Action.{Action, asAction, ActionHeld, isKeep}
 use Rattle.message_model.specs.Value.{isEmptyOrNull, value}
-use Rattle.er7_value.proofs.Decoding.{value-length}
-use Rattle.run_model.specs.Redact.{Known, knows, knownBytes, Event, learning, booked, bookAll, forSweep}
+use Rattle.er7_value.proofs.Decoding.{long-full, value-length}
+use Rattle.er7_value.proofs.Hits.{word-short}
+use Rattle.run_model.specs.Redact.{Known, knows, knownBytes, Event, learning, booked, bookAll, firstFound, forSweep}
 use Rattle.redact_5_act.specs.declared.known.Learnt.{Learnt}
 use Rattle.redact_5_act.specs.declared.known.Learnt.the-variants.{Kept, Full}
 use Rattle.redact_5_act.specs.Known.{valueAt, hashOf, actionAt, knownAt, knownFrom, GoodKnown, ActionsHeld, bookOf, learnValue, learnLeaf, Learns, foundIn, sweptIn, FoundAt, Swept}
@@ -72,7 +74,7 @@ bytes-any t u b k i (suc n) = ap (_+_ (length (valueAt b k i))) (bytes-any t u b
 module _ {b b′ : Text} {k : List ℕ} {n used : ℕ} (g : GoodKnown b k n used) (w : SameTo used b b′) where
   value-same : (i : ℕ) → i < n → valueAt b′ k i ≡ valueAt b k i
   unfolding valueAt
-  value-same i h = part-same w (getD k (i * 8 + 1) 0) (getD k (i * 8 + 2) 0) (g .slots i h)
+  value-same i h = part-same w (getD k (i * 8 + 1) 0) (getD k (i * 8 + 2) 0) (g .slots i h .0)
 
   pub known-same : (t : Text) → knownFrom t b k 0 n ≡ knownFrom t b′ k 0 n
   unfolding knownAt
@@ -82,14 +84,14 @@ module _ {b b′ : Text} {k : List ℕ} {n used : ℕ} (g : GoodKnown b k n used
   good-same = record {
     few = g .few;
     within = g .within;
-    slots = g .slots;
+    slots = λ i h. (g .slots i h .0, rw (value-same i h) (g .slots i h .1));
     hashes = λ i h. g .hashes i h ∙ ap hashOf (sym (value-same i h));
     sum = g .sum ∙ ap knownBytes (known-same []);
   }
 
 -- ---- a row for the value that stands behind the others
 
-module _ {b : Text} {k k′ : List ℕ} {n used e v : ℕ} {a : HeldAction} (g : GoodKnown b k n used) (r : used ≤ e) (l : e ≤ length b)
+module _ {b : Text} {k k′ : List ℕ} {n used e v : ℕ} {a : HeldAction} (g : GoodKnown b k n used) (r : used + 3 ≤ e) (l : e ≤ length b)
     (q : v ≡ hashOf (between b used e)) (p : RowPut k n v used (e - used) a k′) where
   value-kept : (i : ℕ) → i < n → valueAt b k′ i ≡ valueAt b k i
   unfolding valueAt
@@ -124,8 +126,8 @@ module _ {b : Text} {k k′ : List ℕ} {n used e v : ℕ} {a : HeldAction} (g :
     few = omega arith;
     within = f;
     slots = λ i h. split i n
-        (λ o. rw (p .kept (i * 8 + 1) (omega arith), p .kept (i * 8 + 2) (omega arith)) (omega (arith, g .slots i o)))
-        (λ o. let z : i ≡ n = omega arith in rw (z, p .starts, p .lasts) (omega arith));
+        (λ o. rw (p .kept (i * 8 + 1) (omega arith), p .kept (i * 8 + 2) (omega arith), value-kept i o) (omega (arith, g .slots i o)))
+        (λ o. let z : i ≡ n = omega arith in rw (z, p .starts, p .lasts, value-new, between-length b used e l) (omega arith));
     hashes = λ i h. split i n
         (λ o. rw (p .kept (i * 8) (omega arith), value-kept i o) (g .hashes i o))
         (λ o. let z : i ≡ n = omega arith in rw (z, value-new) (p .hashed ∙ q));
@@ -151,7 +153,7 @@ module _ (a : HeldAction) {b : Text} {k : List ℕ} {n used : ℕ} (e : ℕ) (g 
     held = λ t h fs m u e. let x : n ≡ m = cc in rw (← x) fs;
   }
 
-  module _ (r : used ≤ e) (l : e ≤ length b) where
+  module _ (r : used + 3 ≤ e) (l : e ≤ length b) where
     -- the test of "a 513th value or over 16,384 bytes of them"
     test-is : (t : Text) → (leb 512 (length (knownFrom t b k 0 n)) || ltb 16384 (knownBytes (knownFrom t b k 0 n) + length (between b used e))) ≡ (leb 512 n || ltb 16384 e)
     test-is t = let q : used + (e - used) ≡ e = omega arith in rw (known-length t b k 0 n, bytes-any t [] b k 0 n, ← g .sum, between-length b used e l, q)
@@ -195,6 +197,9 @@ learns-as g w f h = record { beside = same-then w (h .beside); book = λ t ρs z
 
 -- ---- a leaf
 
+small-value : (s : Separators) (t : Text) → length t < 3 → length (lower (value s t)) < 3
+small-value s t h = omega (arith, lower-length (value s t), value-length s t)
+
 -- the value of t in lower case was written behind those of n values
 module _ (s : Separators) (t : Text) {d d′ : Text} {used e : ℕ} (w : Wrote d used (lower (value s t)) d′ e) where
   pub lowered-low : used ≤ e
@@ -204,29 +209,55 @@ module _ (s : Separators) (t : Text) {d d′ : Text} {used e : ℕ} (w : Wrote d
   lowered-high h = omega (arith, w .end, lower-length (value s t), value-length s t)
 
 module _ (s : Separators) (t : Text) (a : HeldAction) (x : Text) where
-  pub leaf-keep : isKeep (asAction x a) ≡ true → learnLeaf s t a x ≡ []
+  leaf-keep : isKeep (asAction x a) ≡ true → learnLeaf s t a x ≡ []
   unfolding learnLeaf learning
   leaf-keep e = rw e
 
-  module _ (e : isKeep (asAction x a) ≡ false) where
-    pub leaf-empty : isEmptyOrNull t ≡ true → learnLeaf s t a x ≡ []
+  leaf-small : length t < 3 → learnLeaf s t a x ≡ []
+  unfolding learnLeaf learning
+  leaf-small h = rw (lt-ltb (length (lower (value s t))) 3 (small-value s t h), or-true (isKeep (asAction x a) || isEmptyOrNull t))
+
+  pub leaf-none : (k : Bool) → k ≡ isKeep (asAction x a) → (k || ltb (length t) 3) ≡ true → learnLeaf s t a x ≡ []
+  leaf-none true q e = leaf-keep (sym q)
+  leaf-none false q e = leaf-small (ltb-true (length t) 3 e)
+
+  module _ {k : Bool} (q : k ≡ isKeep (asAction x a)) (e : (k || ltb (length t) 3) ≡ false) {d d′ : Text} {used n : ℕ} (w : Wrote d used (lower (value s t)) d′ n) where
+    other : isKeep (asAction x a) ≡ false
+    other = sym q ∙ or-left k (ltb (length t) 3) e
+
+    full : isEmptyOrNull t ≡ false
+    full = long-full t (ltb-false (length t) 3 (or-right k (ltb (length t) 3) e))
+
+    pub leaf-short : n - used < 3 → learnLeaf s t a x ≡ []
     unfolding learnLeaf learning
-    leaf-empty f = rw (e, f)
+    leaf-short h = rw (other, full, lt-ltb (length (lower (value s t))) 3 (omega (arith, w .end)))
 
-    module _ (f : isEmptyOrNull t ≡ false) {d d′ : Text} {used n : ℕ} (w : Wrote d used (lower (value s t)) d′ n) where
-      pub leaf-short : n - used < 3 → learnLeaf s t a x ≡ []
-      unfolding learnLeaf learning
-      leaf-short h = rw (e, f, lt-ltb (length (lower (value s t))) 3 (omega (arith, w .end)))
+    pub leaf-learns : 3 ≤ n - used → learnLeaf s t a x ≡ learnValue (between d′ used n) a x
+    unfolding learnLeaf learning learnValue
+    leaf-learns h = rw (other, full, le-ltb (length (lower (value s t))) 3 (omega (arith, w .end)), wrote-between w)
 
-      pub leaf-learns : 3 ≤ n - used → learnLeaf s t a x ≡ learnValue (between d′ used n) a x
-      unfolding learnLeaf learning learnValue
-      leaf-learns h = rw (e, f, le-ltb (length (lower (value s t))) 3 (omega (arith, w .end)), wrote-between w)
+-- ---- the sweep
 
-pub swept-empty : (s : Separators) (t : Text) {b : Text} {k : List ℕ} {n used : ℕ} → isEmptyOrNull t ≡ true → Swept s t b b k n used n
+-- in a text that is shorter than every value none is found
+none-found : (v b : Text) (k : List ℕ) (i n : ℕ) → ((j : ℕ) → j < i + n → length v < length (valueAt b k j)) → (x : Text) → firstFound (knownFrom x b k i n) v ≡ none
+unfolding firstFound knownFrom knownAt
+none-found v b k i zero h x = refl
+none-found v b k i (suc n) h x = rw (word-short (valueAt b k i) v (h i (omega arith))) (none-found v b k (i + 1) n (λ j l. h j (omega arith)) x)
+
+pub swept-small : (s : Separators) (t : Text) {b : Text} {k : List ℕ} {n used : ℕ} → GoodKnown b k n used → length t < 3 → Swept s t b b k n used n
 unfolding sweptIn forSweep
-swept-empty s t e = record { beside = same-all; found = record { high = omega arith; found = λ l. absurd (omega arith); missed = λ l x. rw e } }
+swept-small s t {b} {k} {n} g h = record {
+  beside = same-all;
+  found = record {
+    high = omega arith;
+    found = λ l. absurd (omega arith);
+    missed = λ l x. by-cond (λ (o : Option Action). o ≡ none) (isEmptyOrNull t) none (firstFound (knownFrom x b k 0 n) (lower (value s t)))
+        (λ e. refl)
+        (λ e. none-found (lower (value s t)) b k 0 n (λ j m. omega (arith, small-value s t h, g .slots j (omega arith) .1)) x);
+  };
+}
 
-pub swept-found : (s : Separators) (t : Text) {b b′ : Text} {k : List ℕ} {n used m r : ℕ} → GoodKnown b k n used → isEmptyOrNull t ≡ false → Wrote b used (lower (value s t)) b′ m
+pub swept-found : (s : Separators) (t : Text) {b b′ : Text} {k : List ℕ} {n used m r : ℕ} → GoodKnown b k n used → 3 ≤ length t → Wrote b used (lower (value s t)) b′ m
     → FoundAt (foundIn (between b′ used m) b′ k n) k n r → Swept s t b b′ k n used r
 swept-found s t {b} {b′} {k} {n} {used} {m} {r} g e w h = record {
   beside = wrote-same w;
@@ -238,4 +269,4 @@ swept-found s t {b} {b′} {k} {n} {used} {m} {r} g e w h = record {
 }
   where
     by-leaf : (x : Text) → sweptIn s t b k n x ≡ foundIn (between b′ used m) b′ k n x
-    by-leaf x = unfold sweptIn in unfold forSweep in unfold foundIn in rw (e, wrote-between w, known-same g (wrote-same w) x)
+    by-leaf x = unfold sweptIn in unfold forSweep in unfold foundIn in rw (long-full t e, wrote-between w, known-same g (wrote-same w) x)

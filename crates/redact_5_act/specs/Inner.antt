@@ -1,6 +1,6 @@
 -- What the contracts of private functions cite; no public contract rests on it. Assumes nothing: these are definitions.
 use mathlib.Core.Path.{_≡_}
-use mathlib.Core.Bool.{cond}
+use mathlib.Core.Bool.{Bool, false, cond}
 use mathlib.Core.List.{List}
 use mathlib.Core.Option.{Option}
 use Prim.Native.Nat.{ℕ, _+_, _-_, _*_, _≤_, _<_}
@@ -34,6 +34,10 @@ pub record Decoded (bytes : Text) (to len : ℕ) (c : Counters) : Type 0 where
 -- the text that is put in a value's place leaves the message short enough, as long as no byte of it is escaped
 pub record Fits (o : Option Text) (len : ℕ) (c : Counters) : Type 0 where
   pub few : c .size - len + room o ≤ 49152
+
+-- the first byte of v is marked
+unfoldable pub firstMarked : List Bool → Text → Bool
+firstMarked starts v = getD starts (getD v 0 0) false
 
 -- row n of a value with the hash h, of len bytes from index start on, with the action a, was written, which left known′; the rows before it are kept
 pub record RowPut (known : List ℕ) (n h start len : ℕ) (a : HeldAction) (known′ : List ℕ) : Type 0 where

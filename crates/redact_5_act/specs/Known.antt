@@ -5,7 +5,7 @@ use mathlib.Core.Bool.{true, cond}
 use mathlib.Core.List.{List, [], _∷_}
 use mathlib.Core.Option.{Option, none, some}
 use Prim.Native.Nat.{ℕ, zero, suc, _+_, _*_, _%_, _≤_, _<_}
-use lib.ListN.{getD}
+use lib.ListN.{length, getD}
 use lib.Dec.{eqb}
 use Rattle.text.specs.Text.{Text, part, SameTo}
 use Rattle.er7.specs.declared.separators.Separators.{Separators}
@@ -51,21 +51,22 @@ knownFrom text bytes known i (suc n) = knownAt text bytes known i ∷ knownFrom 
 unfoldable pub hashOf : Text → ℕ
 hashOf v = fold OFFSET v
 
--- row i lies in the table, and its value in the bytes; so do n rows
+-- row i lies in the table, and its value, of three bytes at least, in the bytes; so do n rows
 pub record Slot (bytes : Text) (known : List ℕ) (i : ℕ) : Type 0 where
   pub row : i < 512
   pub inside : getD known (i * 8 + 1) 0 + getD known (i * 8 + 2) 0 ≤ 16384
+  pub long : 3 ≤ length (valueAt bytes known i)
   pub hash : getD known (i * 8) 0 ≡ hashOf (valueAt bytes known i)
 
 pub record Slots (bytes : Text) (known : List ℕ) (n : ℕ) : Type 0 where
   pub few : n ≤ 512
   pub slot : (i : ℕ) → i < n → Slot bytes known i
 
--- n rows whose values take the first `used` bytes
+-- n rows whose values, of three bytes at least, take the first `used` bytes
 pub record GoodKnown (bytes : Text) (known : List ℕ) (n used : ℕ) : Type 0 where
   pub few : n ≤ 512
   pub within : used ≤ 16384
-  pub slots : (i : ℕ) → i < n → getD known (i * 8 + 1) 0 + getD known (i * 8 + 2) 0 ≤ used
+  pub slots : (i : ℕ) → i < n → (getD known (i * 8 + 1) 0 + getD known (i * 8 + 2) 0 ≤ used) × (3 ≤ length (valueAt bytes known i))
   pub hashes : (i : ℕ) → i < n → getD known (i * 8) 0 ≡ hashOf (valueAt bytes known i)
   pub sum : used ≡ knownBytes (knownFrom [] bytes known 0 n)
 

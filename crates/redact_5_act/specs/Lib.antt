@@ -1,3 +1,4 @@
 pub mod Act
 pub mod Known
+pub mod State
 pub mod Inner

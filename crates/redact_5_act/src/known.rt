@@ -2,7 +2,6 @@
 use er7::separators::Separators;
 use er7_redact::action;
 use er7_redact::action::Action;
-use er7_value::escape;
 use er7_value::word;
 use pseudonym::OFFSET;
 use pseudonym::fold;
@@ -12,9 +11,10 @@ ghost use Prim.Native.Nat.{_+_, _*_, _≤_, _<_};
 ghost use lib.ListN.{length};
 ghost use Rattle.text.specs.Text.{Text, same, between};
 ghost use Rattle.message_model.specs.Value.{isWholeWord};
+ghost use Rattle.er7_value.specs.Starts.{Starts};
 ghost use Rattle.run_model.specs.Redact as Spec;
 ghost use Rattle.redact_5_act.specs.Known.{actionOf, actionAt, valueAt, hashOf, knownFrom, Slot, Slots, GoodKnown, learnValue, learnLeaf, Learns, foundIn, sweptIn, FoundAt, Swept};
-ghost use Rattle.redact_5_act.specs.Inner.{RowPut};
+ghost use Rattle.redact_5_act.specs.Inner.{firstMarked, RowPut};
 
 // How many values are known, and how many bytes they take; or that there are too many.
 pub enum Learnt {
@@ -124,11 +124,32 @@ fn is_value(
     same_bytes(&all[i..e], &all[start..end])
 }
 
-// Whether the value of row k is a whole word of the bytes from index i to index e.
-fn has_value(bytes: &[u8; 65536], i: usize, e: usize, known: &[usize; 4096], k: usize) -> bool
-    requires { ⌜ Slot (now bytes) (now known) k × (i ≤ e) × (e ≤ 65536) ⌝ }
+// Whether the value of row k begins with a byte that is marked.
+fn may_have(bytes: &[u8; 65536], starts: &[bool; 256], known: &[usize; 4096], k: usize) -> bool
+    requires { ⌜ Slot (now bytes) (now known) k ⌝ }
+    ensures { λ r. ⌜ r ≡ firstMarked (now (starts .entry)) (valueAt (now (bytes .entry)) (now (known .entry)) k) ⌝ }
+{
+    let start = known[k * 8 + 1];
+    let all = &bytes[..];
+    let b = all[start] as usize;
+    starts[b]
+}
+
+// Whether the value of row k is a whole word of the bytes from index i to index e, in which the bytes that can start one are marked.
+fn has_value(
+    bytes: &[u8; 65536],
+    i: usize,
+    e: usize,
+    starts: &[bool; 256],
+    known: &[usize; 4096],
+    k: usize,
+) -> bool
+    requires { ⌜ Slot (now bytes) (now known) k × (i ≤ e) × (e ≤ 65536) × Starts (between (now bytes) i e) (now starts) ⌝ }
     ensures { λ r. ⌜ r ≡ isWholeWord (valueAt (now (bytes .entry)) (now (known .entry)) k) (between (now (bytes .entry)) i e) ⌝ }
 {
+    if !may_have(bytes, starts, known, k) {
+        return false;
+    }
     let row = k * 8;
     let start = known[row + 1];
     let end = start + known[row + 2];
@@ -165,9 +186,12 @@ fn found(bytes: &[u8; 65536], i: usize, e: usize, known: &[usize; 4096], n: usiz
     requires { ⌜ Slots (now bytes) (now known) n × (i ≤ e) × (e ≤ 65536) ⌝ }
     ensures { λ r. ⌜ FoundAt (foundIn (between (now (bytes .entry)) i e) (now (bytes .entry)) (now (known .entry)) n) (now (known .entry)) n r ⌝ }
 {
+    let mut starts = [false; 256];
+    let all = &bytes[..];
+    word::mark_starts(&all[i..e], &mut starts);
     let mut k = 0;
     while k < n {
-        if has_value(bytes, i, e, known, k) {
+        if has_value(bytes, i, e, &starts, known, k) {
             return k;
         }
         k += 1;
@@ -175,7 +199,7 @@ fn found(bytes: &[u8; 65536], i: usize, e: usize, known: &[usize; 4096], n: usiz
     k
 }
 
-// The row of the learnt value for which the sweep acts on a leaf with the text t, or n; work is done in bytes behind the `used` ones of n values.
+// The row of the learnt value for which the sweep acts on a leaf with the text t, or n; work is done in bytes behind the `used` ones of n values. A text of fewer bytes than any learnt value has none.
 pub fn for_sweep(
     s: Separators,
     t: &[u8],
@@ -187,7 +211,7 @@ pub fn for_sweep(
     requires { ⌜ GoodKnown (now bytes) (now known) n used × (length (now t) ≤ 49152) ⌝ }
     ensures { λ r. ⌜ Swept s (now (t .entry)) (now (bytes .entry)) (now (bytes .exit)) (now (known .entry)) n used r ⌝ }
 {
-    if escape::is_empty_or_null(t) {
+    if t.len() < 3 {
         return n;
     }
     let end = word::lower_value(t, s, bytes, used);
@@ -209,7 +233,7 @@ fn put_known(known: &mut [usize], n: usize, h: usize, start: usize, len: usize, 
     known[row + 5] = c.y;
 }
 
-// Learns the value that stands in bytes from index used to index e, with the action a, behind n values of `used` bytes, unless it is known.
+// Learns the value that stands in bytes from index used to index e, of three bytes at least, with the action a, behind n values of `used` bytes, unless it is known.
 fn learn(
     a: Action,
     e: usize,
@@ -218,7 +242,7 @@ fn learn(
     n: usize,
     used: usize,
 ) -> Learnt
-    requires { ⌜ GoodKnown (now bytes) (now known) n used × (used ≤ e) × (e ≤ 65536) ⌝ }
+    requires { ⌜ GoodKnown (now bytes) (now known) n used × (used + 3 ≤ e) × (e ≤ 65536) ⌝ }
     ensures { λ r. ⌜ Learns (learnValue (between (now (bytes .entry)) used e) a) a (now (bytes .entry)) (now (known .entry)) n used (now (bytes .entry)) (now (known .exit)) r ⌝ }
 {
     let h = hash_of(bytes, used, e);
@@ -245,10 +269,7 @@ pub fn learn_leaf(
     requires { ⌜ GoodKnown (now bytes) (now known) n used × (length (now t) ≤ 49152) ⌝ }
     ensures { λ r. ⌜ Learns (learnLeaf s (now (t .entry)) a) a (now (bytes .entry)) (now (known .entry)) n used (now (bytes .exit)) (now (known .exit)) r ⌝ }
 {
-    if action::is_keep(a) {
-        return Learnt::Kept(n, used);
-    }
-    if escape::is_empty_or_null(t) {
+    if action::is_keep(a) | (t.len() < 3) {
         return Learnt::Kept(n, used);
     }
     let end = word::lower_value(t, s, bytes, used);

@@ -5,6 +5,7 @@ ghost use mathlib.Core.Path.{_≡_};
 ghost use mathlib.Core.Bool.{not};
 ghost use Prim.Native.Nat.{_+_, _-_, _^_, _≤_, _<_};
 ghost use lib.Dec.{ltb};
+ghost use Rattle.redact_5_act.specs.State.{counted};
 
 // What holds for a whole run: the key, the delimiters, whether values are learnt, and how many segments and leaves the message has.
 pub struct Setting {
@@ -29,6 +30,33 @@ pub struct Counters {
 pub enum Done {
     Going(Counters),
     Stopped(Refusal),
+}
+
+// A step of a run was made, or is refused.
+pub enum Step {
+    Made,
+    Refused(Refusal),
+}
+
+// The counters that a tally holds.
+pub fn read_tally(tally: &[usize; 6]) -> Counters
+    ensures { λ r. ⌜ r ≡ counted (now (tally .entry)) ⌝ }
+{
+    Counters {
+        rows: tally[0],
+        report_len: tally[1],
+        size: tally[2],
+        used: tally[3],
+        known: tally[4],
+        known_used: tally[5],
+    }
+}
+
+// Makes a tally hold counters.
+pub fn write_tally(tally: &mut [usize; 6], c: Counters)
+    ensures { λ _. ⌜ counted (now (tally .exit)) ≡ c ⌝ }
+{
+    *tally = [c.rows, c.report_len, c.size, c.used, c.known, c.known_used];
 }
 
 // a - b, or 0 where b is more.

@@ -1,17 +1,18 @@
 use Rattle.redact_2_turn.proofs.turn.pass_leaves.Statement.{statement}
 use Rattle.redact_2_turn.proofs.turn.pass_leaves.Tie as tie
 use borrow.Author.Needs.{needs}
-use mathlib.Core.Path.{refl}
+use mathlib.Core.Path.{refl, ap}
 use native.Mathlib.Omega.{arith}
 use Prim.Native.Nat.{_-_}
 use Rattle.redact_4_leaf.specs.State.{buffers}
 use Rattle.redact_2_turn.proofs.Visiting.{LeafLoop, skip-first, skip-next, standing-start, standing-visitable, standing-more, standing-stop, standing-end}
+use Rattle.redact_5_act.specs.State.{counted, afterStep}
 
 abbrev Inv-loop : tie.InvT-loop
-Inv-loop job at text named₀ cells₀ store₀ report₀ bytes₀ known₀ aim g c₀ i₀ named cells store report bytes known c i = LeafLoop text job at aim g i (buffers named₀ cells₀ store₀ report₀ bytes₀ known₀) c₀ (buffers named cells store report bytes known) c
+Inv-loop job at text named₀ cells₀ store₀ report₀ bytes₀ known₀ tally₀ aim g i₀ named cells store report bytes known tally i = LeafLoop text job at aim g i (buffers named₀ cells₀ store₀ report₀ bytes₀ known₀) (counted tally₀) (buffers named cells store report bytes known) (counted tally)
 
 abbrev μ-loop : tie.MeasureT-loop
-μ-loop job at text named₀ cells₀ store₀ report₀ bytes₀ known₀ aim g c₀ i₀ named cells store report bytes known c i = at .end - i
+μ-loop job at text named₀ cells₀ store₀ report₀ bytes₀ known₀ tally₀ aim g i₀ named cells store report bytes known tally i = at .end - i
 
 start-at-requires : tie.Need-start-at-requires Inv-loop μ-loop
 start-at-requires c κs = c .before .before .before .before .before .before .before .pre .1 .order
@@ -26,34 +27,34 @@ spot-at-requires : tie.Need-spot-at-requires Inv-loop μ-loop
 spot-at-requires c κs = search needs
 
 visit-requires : tie.Need-visit-requires Inv-loop μ-loop
-visit-requires c κs = (c .before .before .before .before .before .before .before .before .before .before .before .before .before .before .before .before .before .before .before .pre .0, rw (c .before .before .before .before .before .before .spot-at .ensures) (standing-visitable (c .before .before .before .before .before .before .before .before .before .before .before .before .before .before .before .before .before .before .before .pre .0) _ _ _ (c .before .before .before .before .before .before .before .before .before .before .before .before .before .before .before .before .before .before .before .pre .1) (c .before .before .before .before .before .before .before .before .before .loop .inv .standing) (omega arith)))
+visit-requires c κs = (c .before .before .before .before .before .before .before .before .before .before .before .before .before .before .before .before .before .before .before .before .pre .0, rw (c .before .before .before .before .before .before .before .spot-at .ensures) (standing-visitable (c .before .before .before .before .before .before .before .before .before .before .before .before .before .before .before .before .before .before .before .before .pre .0) _ _ _ (c .before .before .before .before .before .before .before .before .before .before .before .before .before .before .before .before .before .before .before .before .pre .1) (c .before .before .before .before .before .before .before .before .before .before .loop .inv .standing) (omega arith)))
 
-enum-known-next : tie.Need-enum-known-next Inv-loop μ-loop
-enum-known-next c = search needs
+enum-told : tie.Need-enum-told Inv-loop μ-loop
+enum-told c = search needs
 
 enum-known-refusal : tie.Need-enum-known-refusal Inv-loop μ-loop
 enum-known-refusal c = search needs
 
 same-length : tie.Need-same-length Inv-loop μ-loop
-same-length c = search (needs, c .before .before .before .before .before .before .before .before .before .before .before .before .before .before .before .before .before .loop .inv .standing .passing .kept .cells)
+same-length c = search (needs, c .before .before .before .before .before .before .before .before .before .before .before .before .before .before .before .before .before .before .loop .inv .standing .passing .kept .cells)
 
 same-length-2 : tie.Need-same-length-2 Inv-loop μ-loop
-same-length-2 c = search (needs, c .before .before .before .before .before .before .before .before .before .before .before .before .before .before .before .before .before .loop .inv .standing .passing .kept .report)
+same-length-2 c = search (needs, c .before .before .before .before .before .before .before .before .before .before .before .before .before .before .before .before .before .before .loop .inv .standing .passing .kept .report)
 
 returns : tie.Need-returns Inv-loop μ-loop
-returns c = standing-stop (c .before .before .before .before .before .before .before .before .before .before .before .before .before .before .before .before .before .before .before .before .before .before .before .before .before .before .before .pre .0) _ _ _ (c .before .before .before .before .before .before .before .before .before .before .before .before .before .before .before .before .before .before .before .before .before .before .before .before .before .before .before .pre .1) (c .before .before .before .before .before .before .before .before .before .before .before .before .before .before .before .before .before .loop .inv .standing) (omega arith) (rw (c .before .before .before .before .before .before .before .before .before .before .before .before .before .before .spot-at .ensures) at (c .before .before .before .before .before .before .before .visit .ensures)) (c .before .refusal .given .1)
+returns c = standing-stop (c .before .before .before .before .before .before .before .before .before .before .before .before .before .before .before .before .before .before .before .before .before .before .before .before .before .before .before .before .pre .0) _ _ _ (c .before .before .before .before .before .before .before .before .before .before .before .before .before .before .before .before .before .before .before .before .before .before .before .before .before .before .before .before .pre .1) (c .before .before .before .before .before .before .before .before .before .before .before .before .before .before .before .before .before .before .loop .inv .standing) (omega arith) (rw (c .before .before .before .before .before .before .before .before .before .before .before .before .before .before .before .spot-at .ensures) at (c .before .before .before .before .before .before .before .visit .ensures)) (ap (afterStep _) (c .before .refusal .given .1))
 
 add-skip : tie.Need-add-skip Inv-loop μ-loop
 add-skip c = search needs
 
 skip-requires-2 : tie.Need-skip-requires-2 Inv-loop μ-loop
-skip-requires-2 c κs = skip-next (c .before .before .before .before .before .before .before .before .before .before .before .before .before .before .before .before .before .before .before .before .before .before .before .before .before .before .before .before .before .pre .0) _ _ _ (c .before .before .before .before .before .before .before .before .before .before .before .before .before .before .before .before .before .before .before .before .before .before .before .before .before .before .before .before .before .pre .1) (c .before .before .before .before .before .before .before .before .before .before .before .before .before .before .before .before .before .before .before .loop .inv .standing) (omega arith) (rw (c .before .before .before .before .before .before .before .before .before .before .before .before .before .before .before .before .spot-at .ensures) at (c .before .before .before .before .before .before .before .before .before .visit .ensures)) (c .before .before .before .next .given .1)
+skip-requires-2 c κs = skip-next (c .before .before .before .before .before .before .before .before .before .before .before .before .before .before .before .before .before .before .before .before .before .before .before .before .before .before .before .before .before .pre .0) _ _ _ (c .before .before .before .before .before .before .before .before .before .before .before .before .before .before .before .before .before .before .before .before .before .before .before .before .before .before .before .before .before .pre .1) (c .before .before .before .before .before .before .before .before .before .before .before .before .before .before .before .before .before .before .before .loop .inv .standing) (omega arith) (rw (c .before .before .before .before .before .before .before .before .before .before .before .before .before .before .before .before .spot-at .ensures) at (c .before .before .before .before .before .before .before .before .visit .ensures)) (ap (afterStep _) (c .before .before .enum-told .given .1))
 
 loop-less : tie.Need-loop-less Inv-loop μ-loop
 loop-less c = search needs
 
 loop-again : tie.Need-loop-again Inv-loop μ-loop
-loop-again c = record { standing = standing-more (c .before .before .before .before .before .before .before .before .before .before .before .before .before .before .before .before .before .before .before .before .before .before .before .before .before .before .before .before .before .before .pre .0) _ _ _ (c .before .before .before .before .before .before .before .before .before .before .before .before .before .before .before .before .before .before .before .before .before .before .before .before .before .before .before .before .before .before .pre .1) (c .before .before .before .before .before .before .before .before .before .before .before .before .before .before .before .before .before .before .before .before .loop .inv .standing) (omega arith) (rw (c .before .before .before .before .before .before .before .before .before .before .before .before .before .before .before .before .before .spot-at .ensures) at (c .before .before .before .before .before .before .before .before .before .before .visit .ensures)) (c .before .before .before .before .next .given .1) (rw (c .before .before .before .before .before .before .before .before .before .before .before .before .before .before .before .before .before .before .before .before .loop .inv .aim-is, c .before .before .before .before .before .before .before .before .before .before .before .before .before .before .before .before .before .before .before .before .loop .inv .label-is) at (c .skip2 .ensures)); aim-is = c .before .before .before .before .before .before .before .before .before .before .before .before .before .before .before .before .before .before .before .before .loop .inv .aim-is; label-is = c .before .before .before .before .before .before .before .before .before .before .before .before .before .before .before .before .before .before .before .before .loop .inv .label-is }
+loop-again c = record { standing = standing-more (c .before .before .before .before .before .before .before .before .before .before .before .before .before .before .before .before .before .before .before .before .before .before .before .before .before .before .before .before .before .before .pre .0) _ _ _ (c .before .before .before .before .before .before .before .before .before .before .before .before .before .before .before .before .before .before .before .before .before .before .before .before .before .before .before .before .before .before .pre .1) (c .before .before .before .before .before .before .before .before .before .before .before .before .before .before .before .before .before .before .before .before .loop .inv .standing) (omega arith) (rw (c .before .before .before .before .before .before .before .before .before .before .before .before .before .before .before .before .before .spot-at .ensures) at (c .before .before .before .before .before .before .before .before .before .visit .ensures)) (ap (afterStep _) (c .before .before .before .enum-told .given .1)) (rw (c .before .before .before .before .before .before .before .before .before .before .before .before .before .before .before .before .before .before .before .before .loop .inv .aim-is, c .before .before .before .before .before .before .before .before .before .before .before .before .before .before .before .before .before .before .before .before .loop .inv .label-is) at (c .skip2 .ensures)); aim-is = c .before .before .before .before .before .before .before .before .before .before .before .before .before .before .before .before .before .before .before .before .loop .inv .aim-is; label-is = c .before .before .before .before .before .before .before .before .before .before .before .before .before .before .before .before .before .before .before .before .loop .inv .label-is }
 
 same-length-3 : tie.Need-same-length-3 Inv-loop μ-loop
 same-length-3 c = search needs
@@ -75,7 +76,7 @@ pass-leaves-spec =
     loop-holds
     spot-at-requires
     visit-requires
-    enum-known-next
+    enum-told
     enum-known-refusal
     same-length
     same-length-2

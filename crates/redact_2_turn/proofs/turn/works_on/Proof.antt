@@ -1,12 +1,30 @@
 use borrow.Author.Needs.{needs}
 use Rattle.redact_2_turn.proofs.turn.works_on.Statement.{statement}
 use Rattle.redact_2_turn.proofs.turn.works_on.Tie as tie
-use mathlib.Core.Path.{sym}
+use mathlib.Core.Path.{sym, _∙_}
 use Rattle.er7_table.specs.Table.{cell}
 use Rattle.redact_2_turn.specs.Turn.{works, isTouched}
+use borrow.Author.Tests.{not-true}
+use Rattle.redact_2_turn.proofs.Aims.{works-elsewhere}
 
 mul-at : tie.Need-mul-at
 mul-at c = search needs
+
+add-index-fits : tie.Need-add-index-fits
+add-index-fits c = search needs
+
+mul-index-fits : tie.Need-mul-index-fits
+mul-index-fits c = search needs
+
+shared-slice-read-index-fits : tie.Need-shared-slice-read-index-fits
+shared-slice-read-index-fits c = search needs
+
+index-fits-requires : tie.Need-index-fits-requires
+index-fits-requires c κs = search needs
+
+returns : tie.Need-returns
+unfolding cell
+returns c = sym (works-elsewhere _ _ _ _ _ (sym (c .before .index-fits .ensures) ∙ not-true _ (c .if1 .taken)))
 
 add-live : tie.Need-add-live
 add-live c = search needs
@@ -35,15 +53,20 @@ touchable-requires c κs = search needs
 reaches-place-requires : tie.Need-reaches-place-requires
 reaches-place-requires c κs = search needs
 
-returns : tie.Need-returns
+returns-2 : tie.Need-returns-2
 unfolding works isTouched cell
-returns c = sym (rw (← c .before .before .before .before .place-at .ensures, ← c .before .before .before .touchable .ensures, ← c .before .before .reaches-place .ensures _))
+returns-2 c = sym (rw (← c .before .before .before .before .place-at .ensures, ← c .before .before .before .touchable .ensures, ← c .before .before .reaches-place .ensures _))
 
 pub works-on-spec : {M : Type 1} → statement M
 works-on-spec =
     tie.close
     (tie.spec
     mul-at
+    add-index-fits
+    mul-index-fits
+    shared-slice-read-index-fits
+    index-fits-requires
+    returns
     add-live
     mul-live
     shared-slice-read-live
@@ -53,4 +76,4 @@ works-on-spec =
     place-at-requires
     touchable-requires
     reaches-place-requires
-    returns)
+    returns-2)

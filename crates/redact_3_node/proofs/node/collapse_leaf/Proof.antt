@@ -24,7 +24,7 @@ returns : tie.Need-returns
 returns c = λ named. visit-inner _ _ _ _ named _ _ _ _ _ _ (c .before .before .before .before .before .before .before .before .before .before .before .before .pre .3) (c .before .before .before .before .before .before .before .before .before .before .before .before .pre .6) (c .before .before .before .before .before .before .before .before .before .before .before .before .pre .4) (c .before .before .before .before .before .before .before .before .before .before .before .before .pre .2) _ refl (c .before .before .before .before .before .before .before .before .before .before .before .before .pre .1) (rw (← c .before .before .before .before .before .before .before .before .reach-of .ensures _, ← c .before .before .before .before .before .before .place-at .ensures) (sym (c .before .before .before .before .before .starts .ensures) ∙ not-true _ (c .before .before .before .before .if1 .taken))) (c .before .before .set-gone .ensures)
 
 collapse-node-requires : tie.Need-collapse-node-requires
-collapse-node-requires c κs = (c .before .before .before .before .before .before .before .before .before .before .before .before .before .pre .0, c .before .before .before .before .before .before .before .before .before .before .before .before .before .pre .1, c .before .before .before .before .before .before .before .before .before .before .before .before .before .pre .2, rw (← c .before .before .before .before .before .before .before .before .before .reach-of .ensures _, ← c .before .before .before .before .before .before .before .place-at .ensures) (sym (c .before .before .before .before .before .before .starts .ensures) ∙ not-false _ (c .before .before .before .before .before .if1 .left)), c .before .before .before .before .before .before .before .before .before .before .before .before .before .pre .3, c .before .before .before .before .before .before .before .before .before .before .before .before .before .pre .4, c .before .before .before .before .before .before .before .before .before .before .before .before .before .pre .5, c .before .before .before .before .before .before .before .before .before .before .before .before .before .pre .6)
+collapse-node-requires c κs = (c .before .before .before .before .before .before .before .before .before .before .before .before .before .before .pre .0, c .before .before .before .before .before .before .before .before .before .before .before .before .before .before .pre .1, c .before .before .before .before .before .before .before .before .before .before .before .before .before .before .pre .2, rw (← c .before .before .before .before .before .before .before .before .before .before .reach-of .ensures _, ← c .before .before .before .before .before .before .before .before .place-at .ensures) (sym (c .before .before .before .before .before .before .before .starts .ensures) ∙ not-false _ (c .before .before .before .before .before .before .if1 .left)), c .before .before .before .before .before .before .before .before .before .before .before .before .before .before .pre .3, c .before .before .before .before .before .before .before .before .before .before .before .before .before .before .pre .4, c .before .before .before .before .before .before .before .before .before .before .before .before .before .before .pre .5, c .before .before .before .before .before .before .before .before .before .before .before .before .before .before .pre .6)
 
 same-length-2 : tie.Need-same-length-2
 same-length-2 c = search needs

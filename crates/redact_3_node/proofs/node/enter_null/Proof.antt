@@ -2,10 +2,13 @@ use borrow.Author.Needs.{needs}
 use Rattle.redact_3_node.proofs.node.enter_null.Statement.{statement}
 use Rattle.redact_3_node.proofs.node.enter_null.Tie as tie
 use native.Mathlib.Omega.{arith}
-use Rattle.redact_3_node.proofs.Collapses.{null-stays, null-becomes, null-long, null-few}
+use Rattle.redact_3_node.proofs.Collapses.{null-stays, null-becomes, null-long, null-room, null-countable}
+
+read-tally-requires : tie.Need-read-tally-requires
+read-tally-requires c κs = search needs
 
 put-null-requires : tie.Need-put-null-requires
-put-null-requires c κs = (c .before .before .before .before .pre .1 .most, λ x. c .before .before .before .before .pre .1 .room)
+put-null-requires c κs = let m = null-room (c .read-tally .ensures) (c .before .before .before .before .before .before .pre .1) in (m .0, λ x. m .1)
 
 enum-told : tie.Need-enum-told
 enum-told c = search needs
@@ -14,13 +17,13 @@ enum-known-came : tie.Need-enum-known-came
 enum-known-came c = search needs
 
 enter-requires : tie.Need-enter-requires
-enter-requires c κs = let g = c .before .before .before .before .before .before .before .before .before .before .pre .1 in let k = null-few (c .before .before .before .before .before .put-null .ensures) (c .before .before .before .came .given .1) in (c .before .before .before .before .before .before .before .before .before .before .pre .0, omega (arith, g .good .rows, g .inside, g .ends), omega (arith, k, g .most), omega (arith, k, g .room), omega (arith, g .rows), omega (arith, g .report), c .before .before .before .before .before .before .before .before .before .before .pre .2)
+enter-requires c κs = let g = c .before .before .before .before .before .before .before .before .before .before .before .before .before .pre .1 in (c .before .before .before .before .before .before .before .before .before .before .before .before .before .pre .0, omega (arith, g .good .rows, g .inside, g .ends), null-countable (c .before .before .before .before .before .before .before .read-tally .ensures) g (c .before .before .before .before .before .before .put-null .ensures) (c .before .before .before .before .came .given .1), c .before .before .before .before .before .before .before .before .before .before .before .before .before .pre .2)
 
 enum-told-2 : tie.Need-enum-told-2
 enum-told-2 c = search needs
 
 returns : tie.Need-returns
-returns c = null-stays (c .before .before .before .before .before .before .before .pre .1) _ _ _ (c .before .before .put-null .ensures) (c .enum-told .given .1)
+returns c = null-stays (c .before .before .before .read-tally .ensures) (c .before .before .before .before .before .before .before .before .before .pre .1) _ _ _ (c .before .before .put-null .ensures) (c .enum-told .given .1)
 
 same-length : tie.Need-same-length
 same-length c = search needs
@@ -29,15 +32,16 @@ same-length-2 : tie.Need-same-length-2
 same-length-2 c = search needs
 
 returns-2 : tie.Need-returns-2
-returns-2 c = null-becomes (c .before .before .before .before .before .before .before .before .before .before .before .before .before .before .before .pre .1) _ _ _ (c .before .before .before .before .before .before .before .before .before .before .put-null .ensures) (c .before .before .before .before .before .before .before .before .came .given .1) (c .before .before .before .before .enter .ensures)
+returns-2 c = null-becomes (c .before .before .before .before .before .before .before .before .before .before .before .before .read-tally .ensures) (c .before .before .before .before .before .before .before .before .before .before .before .before .before .before .before .before .before .before .pre .1) _ _ _ (c .before .before .before .before .before .before .before .before .before .before .before .put-null .ensures) (c .before .before .before .before .before .before .before .before .before .came .given .1) (c .before .before .before .before .enter .ensures)
 
 returns-3 : tie.Need-returns-3
-returns-3 c = null-long (c .before .before .before .before .before .before .before .pre .1) _ _ _ (c .before .before .put-null .ensures) (c .enum-told2 .given .1)
+returns-3 c = null-long (c .before .before .before .read-tally .ensures) (c .before .before .before .before .before .before .before .before .before .pre .1) _ _ _ (c .before .before .put-null .ensures) (c .enum-told2 .given .1)
 
 pub enter-null-spec : {M : Type 1} → statement M
 enter-null-spec =
     tie.close
     (tie.spec
+    read-tally-requires
     put-null-requires
     enum-told
     enum-known-came

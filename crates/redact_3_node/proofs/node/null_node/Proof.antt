@@ -72,7 +72,7 @@ same-length-3 c = search needs
 
 returns-2 : tie.Need-returns-2
 unfolding cell
-returns-2 c = node-becomes (c .before .before .before .before .before .before .before .before .before .before .before .before .before .before .before .before .before .before .before .before .pre .1) _ _ (sym (already-is _ _ _ _ (c .before .before .before .before .before .before .before .before .before .before .before .before .before .leaves-size .ensures) (c .before .before .before .before .before .before .before .before .before .is-null .ensures)) ∙ c .before .before .before .before .before .before .before .before .if1 .left) (went-is _ _ _ _ (c .before .before .before .before .before .before .before .before .before .before .before .before .before .leaves-size .ensures) (c .before .before .before .before .before .before .before .before .before .before .before .before .before .before .before .before .before .before .before .before .pre .1)) (c .before .before .before .before .enter-null .ensures)
+returns-2 c = node-becomes (c .before .before .before .before .before .before .before .before .before .before .before .before .before .before .before .before .before .before .before .before .before .pre .1) _ _ (sym (already-is _ _ _ _ (c .before .before .before .before .before .before .before .before .before .before .before .before .before .before .leaves-size .ensures) (c .before .before .before .before .before .before .before .before .before .before .is-null .ensures)) ∙ c .before .before .before .before .before .before .before .before .before .if1 .left) (went-is _ _ _ _ (c .before .before .before .before .before .before .before .before .before .before .before .before .before .before .leaves-size .ensures) (c .before .before .before .before .before .before .before .before .before .before .before .before .before .before .before .before .before .before .before .before .before .pre .1)) (c .before .before .before .before .enter-null .ensures)
 
 pub null-node-spec : {M : Type 1} → statement M
 null-node-spec =

@@ -4,7 +4,7 @@ use Rattle.redact_4_leaf.proofs.leaf.act_on.Tie as tie
 use native.Mathlib.Omega.{arith}
 use Rattle.er7_table.specs.Table.{cell}
 use Rattle.redact_4_leaf.specs.State.{textOf}
-use Rattle.redact_4_leaf.proofs.Acting.{leaf-held, acted-stays, acted-becomes, acted-long, became-few}
+use Rattle.redact_4_leaf.proofs.Acting.{leaf-held, acted-stays, acted-countable, acted-becomes, acted-long}
 
 mul-row : tie.Need-mul-row
 mul-row c = search needs
@@ -27,9 +27,12 @@ mul-len c = search needs
 slice-read-len : tie.Need-slice-read-len
 slice-read-len c = search needs
 
+read-tally-requires : tie.Need-read-tally-requires
+read-tally-requires c κs = search needs
+
 act-requires : tie.Need-act-requires
 unfolding cell
-act-requires c κs = (c .before .before .before .before .before .before .before .before .pre .0, leaf-held (c .before .before .before .before .before .before .before .before .pre .1))
+act-requires c κs = (c .before .before .before .before .before .before .before .before .before .before .pre .0, leaf-held (c .read-tally .ensures) (c .before .before .before .before .before .before .before .before .before .before .pre .1))
 
 enum-told : tie.Need-enum-told
 enum-told c = search needs
@@ -39,14 +42,14 @@ enum-known-came c = search needs
 
 enter-requires : tie.Need-enter-requires
 unfolding cell
-enter-requires c κs = let k = became-few (c .before .before .before .before .before .act .ensures) (c .before .before .before .came .given .1) in let g = c .before .before .before .before .before .before .before .before .before .before .before .before .before .before .pre .1 in (c .before .before .before .before .before .before .before .before .before .before .before .before .before .before .pre .0, omega (arith, g .good .rows, g .inside), omega (arith, k, g .room .most), omega (arith, k, g .room .room, g .room .most), omega (arith, g .rows), omega (arith, g .report), c .before .before .before .before .before .before .before .before .before .before .before .before .before .before .pre .2)
+enter-requires c κs = let g = c .before .before .before .before .before .before .before .before .before .before .before .before .before .before .before .before .before .pre .1 in (c .before .before .before .before .before .before .before .before .before .before .before .before .before .before .before .before .before .pre .0, omega (arith, g .good .rows, g .inside), acted-countable (c .before .before .before .before .before .before .before .read-tally .ensures) g (c .before .before .before .before .before .before .act .ensures) (c .before .before .before .before .came .given .1), c .before .before .before .before .before .before .before .before .before .before .before .before .before .before .before .before .before .pre .2)
 
 enum-told-2 : tie.Need-enum-told-2
 enum-told-2 c = search needs
 
 returns : tie.Need-returns
 unfolding cell textOf
-returns c = acted-stays (c .before .before .before .before .before .before .before .before .before .before .before .pre .1) _ _ _ (c .before .before .act .ensures) (c .enum-told .given .1)
+returns c = acted-stays (c .before .before .before .read-tally .ensures) (c .before .before .before .before .before .before .before .before .before .before .before .before .before .pre .1) _ _ _ (c .before .before .act .ensures) (c .enum-told .given .1)
 
 same-length : tie.Need-same-length
 same-length c = search needs
@@ -56,11 +59,11 @@ same-length-2 c = search needs
 
 returns-2 : tie.Need-returns-2
 unfolding cell textOf
-returns-2 c = acted-becomes (c .before .before .before .before .before .before .before .before .before .before .before .before .before .before .before .before .before .before .before .pre .1) _ _ _ (c .before .before .before .before .before .before .before .before .before .before .act .ensures) (c .before .before .before .before .before .before .before .before .came .given .1) (c .before .before .before .before .enter .ensures)
+returns-2 c = acted-becomes (c .before .before .before .before .before .before .before .before .before .before .before .before .read-tally .ensures) (c .before .before .before .before .before .before .before .before .before .before .before .before .before .before .before .before .before .before .before .before .before .before .pre .1) _ _ _ (c .before .before .before .before .before .before .before .before .before .before .before .act .ensures) (c .before .before .before .before .before .before .before .before .before .came .given .1) (c .before .before .before .before .enter .ensures)
 
 returns-3 : tie.Need-returns-3
 unfolding cell textOf
-returns-3 c = acted-long (c .before .before .before .before .before .before .before .before .before .before .before .pre .1) _ _ _ (c .before .before .act .ensures) (c .enum-told2 .given .1)
+returns-3 c = acted-long (c .before .before .before .read-tally .ensures) (c .before .before .before .before .before .before .before .before .before .before .before .before .before .pre .1) _ _ _ (c .before .before .act .ensures) (c .enum-told2 .given .1)
 
 pub act-on-spec : {M : Type 1} → statement M
 act-on-spec =
@@ -73,6 +76,7 @@ act-on-spec =
     add-len
     mul-len
     slice-read-len
+    read-tally-requires
     act-requires
     enum-told
     enum-known-came

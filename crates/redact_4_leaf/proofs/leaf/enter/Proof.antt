@@ -1,8 +1,11 @@
 use borrow.Author.Needs.{needs}
 use Rattle.redact_4_leaf.proofs.leaf.enter.Statement.{statement}
 use Rattle.redact_4_leaf.proofs.leaf.enter.Tie as tie
-use mathlib.Core.Path.{refl}
 use native.Mathlib.Omega.{arith}
+use Rattle.redact_4_leaf.proofs.Acting.{countable-by, entered-by}
+
+read-tally-requires : tie.Need-read-tally-requires
+read-tally-requires c κs = search needs
 
 place-at-requires : tie.Need-place-at-requires
 place-at-requires c κs = search needs
@@ -11,19 +14,22 @@ set-text-requires : tie.Need-set-text-requires
 set-text-requires c κs = search needs
 
 row-at-requires : tie.Need-row-at-requires
-row-at-requires c κs = search needs
-
-add-t20 : tie.Need-add-t20
-add-t20 c = search needs
+row-at-requires c κs = (c .before .before .before .before .before .before .before .before .before .before .before .before .pre .0, omega (arith, countable-by (c .before .before .before .before .before .before .before .read-tally .ensures) (c .before .before .before .before .before .before .before .before .before .before .before .before .pre .2) .report, c .before .before .before .before .before .before .before .before .before .before .before .before .pre .3))
 
 less-requires : tie.Need-less-requires
 less-requires c κs = search needs
 
-add-t22 : tie.Need-add-t22
-add-t22 c = search needs
+add-size : tie.Need-add-size
+add-size c = search (needs, countable-by (c .before .before .before .before .before .before .before .before .before .before .before .read-tally .ensures) (c .before .before .before .before .before .before .before .before .before .before .before .before .before .before .before .before .pre .2), c .less .ensures)
 
 add-t23 : tie.Need-add-t23
-add-t23 c = search needs
+add-t23 c = search (needs, countable-by (c .before .before .before .before .before .before .before .before .before .before .before .before .before .read-tally .ensures) (c .before .before .before .before .before .before .before .before .before .before .before .before .before .before .before .before .before .before .pre .2))
+
+add-t25 : tie.Need-add-t25
+add-t25 c = search (needs, countable-by (c .before .before .before .before .before .before .before .before .before .before .before .before .before .read-tally .ensures) (c .before .before .before .before .before .before .before .before .before .before .before .before .before .before .before .before .before .before .pre .2))
+
+write-tally-requires : tie.Need-write-tally-requires
+write-tally-requires c κs = search needs
 
 same-length : tie.Need-same-length
 same-length c = search needs
@@ -32,19 +38,21 @@ same-length-2 : tie.Need-same-length-2
 same-length-2 c = search needs
 
 returns : tie.Need-returns
-returns c = record { set = c .before .before .before .before .before .before .before .before .set-text .ensures; row = rw (c .before .before .before .before .before .before .before .before .before .before .place-at .ensures) at (c .before .before .before .before .row-at .ensures .0); row-most = omega (arith, c .before .before .before .before .row-at .ensures .1, c .before .before .before .before .before .before .before .before .before .before .before .before .before .before .before .pre .6); rows = refl; size = rw (c .less .ensures); used = refl; known = refl; known-used = refl }
+returns c = entered-by (c .before .before .before .before .before .before .before .before .before .before .before .before .before .before .read-tally .ensures) (c .before .before .before .before .before .before .before .before .before .before .set-text .ensures) (rw (c .before .before .before .before .before .before .before .before .before .before .before .before .place-at .ensures) at (c .before .before .before .before .before .before .row-at .ensures .0)) (omega (arith, c .before .before .before .before .before .before .row-at .ensures .1, c .before .before .before .before .before .before .before .before .before .before .before .before .before .before .before .before .before .before .before .pre .3)) (rw (c .before .before .before .less .ensures) at (c .write-tally .ensures))
 
 pub enter-spec : {M : Type 1} → statement M
 enter-spec =
     tie.close
     (tie.spec
+    read-tally-requires
     place-at-requires
     set-text-requires
     row-at-requires
-    add-t20
     less-requires
-    add-t22
+    add-size
     add-t23
+    add-t25
+    write-tally-requires
     same-length
     same-length-2
     returns)

@@ -1,9 +1,17 @@
 use borrow.Author.Needs.{needs}
 use Rattle.redact_5_act.proofs.known.has_value.Statement.{statement}
 use Rattle.redact_5_act.proofs.known.has_value.Tie as tie
+use mathlib.Core.Path.{sym, _∙_}
+use borrow.Author.Tests.{not-true}
 use Rattle.text.specs.Text.{between}
 use Rattle.redact_5_act.specs.Known.{valueAt}
-use Rattle.redact_5_act.proofs.Knowing.{word-of-part}
+use Rattle.redact_5_act.proofs.Knowing.{not-marked, word-of-part}
+
+may-have-requires : tie.Need-may-have-requires
+may-have-requires c κs = search needs
+
+returns : tie.Need-returns
+returns c = not-marked _ (c .before .before .pre .0) (c .before .before .pre .3) (sym (c .before .may-have .ensures) ∙ not-true _ (c .if1 .taken))
 
 mul-row : tie.Need-mul-row
 mul-row c = search needs
@@ -50,14 +58,16 @@ part-is-whole-word-end-2 c = search needs
 is-whole-word-requires : tie.Need-is-whole-word-requires
 is-whole-word-requires c κs = search needs
 
-returns : tie.Need-returns
+returns-2 : tie.Need-returns-2
 unfolding valueAt between
-returns c = word-of-part _ _ _ _ (c .is-whole-word .ensures)
+returns-2 c = word-of-part _ _ _ _ (c .is-whole-word .ensures)
 
 pub has-value-spec : {M : Type 1} → statement M
 has-value-spec =
     tie.close
     (tie.spec
+    may-have-requires
+    returns
     mul-row
     add-start
     mul-start
@@ -73,4 +83,4 @@ has-value-spec =
     part-is-whole-word-start-2
     part-is-whole-word-end-2
     is-whole-word-requires
-    returns)
+    returns-2)

@@ -10,7 +10,7 @@ hash-of-requires : tie.Need-hash-of-requires
 hash-of-requires c κs = search needs
 
 knows-requires : tie.Need-knows-requires
-knows-requires c κs = (good-slots (c .before .before .pre .0), c .before .before .pre .1, c .before .before .pre .2, c .before .hash-of .ensures .0)
+knows-requires c κs = (good-slots (c .before .before .pre .0), omega arith, c .before .before .pre .2, c .before .hash-of .ensures .0)
 
 returns : tie.Need-returns
 returns c = learns-known _ _ (c .before .before .before .before .pre .0) (λ t. sym (c .before .knows .ensures t) ∙ c .if1 .taken)
