@@ -13,10 +13,12 @@ use Rattle.refusal.specs.declared.Refusal.the-variants.{ShortBuffer}
 use Rattle.refusal.specs.Refusal.{number}
 use Rattle.policy_model.specs.Policy as Q
 use Rattle.policy_model.specs.Policy.{Policy, PolicyRead, read}
-use Rattle.run_model.specs.Redact.{Row, printRows}
-use Rattle.run_model.specs.Entries.{Answer, done, refused, Lent, Outcome, filled, outcome, isShort, withBuffers, withPolicy}
-use Rattle.entries.specs.declared.handed.Handed.{Handed}
-use Rattle.entries.specs.Handed.{lent, asOutcome}
+use Rattle.run_model.specs.Redact.{printRows}
+use Rattle.run_model.specs.Entries.{Answer, done, refused, Redaction, Lent, Outcome, filled, outcome, outcomeWithReport, isShort, withBuffers, withPolicy}
+use Rattle.entries.specs.declared.returned.Returned.{Returned}
+use Rattle.entries.specs.declared.returned.ReturnedReport.{ReturnedReport}
+use Rattle.entries.specs.Returned.{lent, lentReport, asOutcome, asRedactOutcome}
+use Rattle.entries.specs.Inner.{withReport}
 
 -- a buffer keeps the text at its front
 zeroed-filled : (d t : Text) (n : ℕ) → take n d ≡ t → n ≤ length d → (length t ≡ n) × (zeroed d n ≡ filled t (length d))
@@ -29,38 +31,35 @@ zeroed-filled d t n e h =
 zeroed-whole : (d : Text) → zeroed d 0 ≡ filled [] (length d)
 zeroed-whole d = zeroed-filled d [] 0 refl (omega arith) .1
 
-module _ (o ρ s : Text) {o′ ρ′ s′ : Text} where
-  pub all-refused : (e : Refusal) (n : ℕ) {k : ℕ} → o′ ≡ zeroed o 0 → ρ′ ≡ zeroed ρ 0 → s′ ≡ zeroed s 0 → k ≡ number e
-      → asOutcome (record { number = k; line = n; «text_len» = 0; «report_len» = 0; rows = 0 }) o′ ρ′ s′ ≡ outcome (lent (length o) (length ρ) (length s)) (refused e n)
+module _ (o s : Text) {o′ s′ : Text} where
+  pub all-refused : (e : Refusal) (n : ℕ) {k : ℕ} → o′ ≡ zeroed o 0 → s′ ≡ zeroed s 0 → k ≡ number e
+      → asOutcome (record { number = k; line = n; «text_len» = 0 }) o′ s′ ≡ outcome (lent (length o) (length s)) (refused e n)
   unfolding asOutcome outcome lent
-  all-refused e n a b c f = rw (a, b, c, f, zeroed-whole o, zeroed-whole ρ, zeroed-whole s)
+  all-refused e n a c f = rw (a, c, f, zeroed-whole o, zeroed-whole s)
 
-  pub all-done : (t : Text) (ρs : List Row) {n m k : ℕ} → o′ ≡ zeroed o n → ρ′ ≡ zeroed ρ m → s′ ≡ zeroed s 0 → n ≤ length o → m ≤ length ρ
-      → take n o ≡ t → take m ρ ≡ printRows ρs → k ≡ length ρs
-      → asOutcome (record { number = 0; line = 0; «text_len» = n; «report_len» = m; rows = k }) o′ ρ′ s′ ≡ outcome (lent (length o) (length ρ) (length s)) (done t ρs)
+  pub all-done : (t : Text) {n : ℕ} → o′ ≡ zeroed o n → s′ ≡ zeroed s 0 → n ≤ length o → take n o ≡ t
+      → asOutcome (record { number = 0; line = 0; «text_len» = n }) o′ s′ ≡ outcome (lent (length o) (length s)) (done t)
   unfolding asOutcome outcome lent
-  all-done t ρs {n} {m} {k} a b c h l f g e =
-      let x = zeroed-filled o t n f h in
-      let y = zeroed-filled ρ (printRows ρs) m g l in
-      rw (a, b, c, e, x .0, y .0, x .1, y .1, zeroed-whole s)
+  all-done t {n} a c h f = let x = zeroed-filled o t n f h in rw (a, c, x .0, x .1, zeroed-whole s)
 
--- a report of no bytes
-module _ (r : Handed) (o ρ s : Text) (a b : ℕ) where
-  no-report : (x : Answer) → outcome (lent a 0 b) x .report ≡ [] → asOutcome r o ρ s ≡ outcome (lent a 0 b) x → asOutcome r o [] s ≡ outcome (lent a 0 b) x
-  unfolding asOutcome
-  no-report x f e =
-      let q : ρ ≡ [] = ap (λ (y : Outcome). y .report) e ∙ f in
-      rw (← q) e
+-- .. with a report beside them
+module _ (ρ o′ s′ : Text) {ρ′ : Text} (r : Returned) {q : ReturnedReport} (a b : ℕ) where
+  pub report-refused : (e : Refusal) (n : ℕ) → q ≡ withReport r 0 0 → asOutcome r o′ s′ ≡ outcome (lent a b) (refused e n) → ρ′ ≡ zeroed ρ 0
+      → asRedactOutcome q o′ ρ′ s′ ≡ outcomeWithReport (lentReport a (length ρ) b) (refused e n)
+  unfolding asOutcome asRedactOutcome outcome outcomeWithReport lentReport withReport printRows
+  report-refused x n g e h =
+      rw (g, h, zeroed-whole ρ, ap (λ (z : Outcome). z .number) e, ap (λ (z : Outcome). z .line) e, ap (λ (z : Outcome). z .textLength) e, ap (λ (z : Outcome). z .output) e, ap (λ (z : Outcome). z .scratch) e)
 
-  pub text-refused : (e : Refusal) (n : ℕ) → asOutcome r o ρ s ≡ outcome (lent a 0 b) (refused e n) → asOutcome r o [] s ≡ outcome (lent a 0 b) (refused e n)
-  text-refused e n = no-report (refused e n) (unfold outcome lent filled in refl)
-
-  pub text-done : (t : Text) → asOutcome r o ρ s ≡ outcome (lent a 0 b) (done t []) → asOutcome r o [] s ≡ outcome (lent a 0 b) (done t [])
-  text-done t = no-report (done t []) (unfold outcome lent filled printRows in refl)
+  pub report-done : (d : Redaction) {m k : ℕ} → q ≡ withReport r m k → asOutcome r o′ s′ ≡ outcome (lent a b) (done (d .text)) → ρ′ ≡ zeroed ρ m → m ≤ length ρ
+      → take m ρ ≡ printRows (d .rows) → k ≡ length (d .rows) → asRedactOutcome q o′ ρ′ s′ ≡ outcomeWithReport (lentReport a (length ρ) b) (done d)
+  unfolding asOutcome asRedactOutcome outcome outcomeWithReport lentReport withReport
+  report-done d {m} g e h l f c =
+      let z = zeroed-filled ρ (printRows (d .rows)) m f l in
+      rw (g, h, c, z .0, z .1, ap (λ (z : Outcome). z .number) e, ap (λ (z : Outcome). z .line) e, ap (λ (z : Outcome). z .textLength) e, ap (λ (z : Outcome). z .output) e, ap (λ (z : Outcome). z .scratch) e)
 
 -- a buffer keeps its length
-pub same-lent : {a′ a : ℕ} (ρ b : ℕ) (x : Answer) → a′ ≡ a → outcome (lent a′ ρ b) x ≡ outcome (lent a ρ b) x
-same-lent ρ b x e = rw e
+pub same-lent : {a′ a : ℕ} (b : ℕ) (x : Answer Text) → a′ ≡ a → outcome (lent a′ b) x ≡ outcome (lent a b) x
+same-lent b x e = rw e
 
 -- ---- short buffers
 
@@ -73,7 +72,7 @@ or-right true true e = e
 or-right true false e = refl
 or-right false b e = e
 
-module _ (a ρ b : ℕ) (e : isShort (lent a ρ b) ≡ false) where
+module _ (a b : ℕ) (e : isShort (lent a b) ≡ false) where
   pub wide-output : 49152 ≤ a
   unfolding isShort lent
   wide-output = ltb-false a 49152 (or-left (ltb a 49152) (ltb b 49152) e)
@@ -82,20 +81,28 @@ module _ (a ρ b : ℕ) (e : isShort (lent a ρ b) ≡ false) where
   unfolding isShort lent
   wide-scratch = ltb-false b 49152 (or-right (ltb a 49152) (ltb b 49152) e)
 
-pub with-short : (b : Lent) (x : Answer) → isShort b ≡ true → outcome b (refused ShortBuffer 0) ≡ outcome b (withBuffers b x)
-unfolding withBuffers
-with-short b x e = rw e
+-- an entry answers 1, or what it has to answer
+module _ {X : Type 0} (b : Lent) (x : Answer X) where
+  pub short-answer : isShort b ≡ true → refused ShortBuffer 0 ≡ withBuffers b x
+  unfolding withBuffers
+  short-answer e = rw e
 
-pub with-wide : (b : Lent) {y : Answer} (x : Answer) → isShort b ≡ false → y ≡ x → outcome b y ≡ outcome b (withBuffers b x)
-unfolding withBuffers
-with-wide b x e f = rw (e, f)
+  pub wide-answer : {y : Answer X} → isShort b ≡ false → y ≡ x → y ≡ withBuffers b x
+  unfolding withBuffers
+  wide-answer e f = rw (e, f)
+
+pub with-short : (b : Lent) (x : Answer Text) → isShort b ≡ true → outcome b (refused ShortBuffer 0) ≡ outcome b (withBuffers b x)
+with-short b x e = ap (outcome b) (short-answer b x e)
+
+pub with-wide : (b : Lent) {y : Answer Text} (x : Answer Text) → isShort b ≡ false → y ≡ x → outcome b y ≡ outcome b (withBuffers b x)
+with-wide b x e f = ap (outcome b) (wide-answer b x e f)
 
 -- ---- a policy that is refused or read
 
-pub policy-refused : (o : PolicyRead) (f : Policy → Answer) {x : Refusal} {n : ℕ} → o ≡ Q.refused x n → refused x n ≡ withPolicy o f
+pub policy-refused : {X : Type 0} (o : PolicyRead) (f : Policy → Answer X) {x : Refusal} {n : ℕ} → o ≡ Q.refused x n → refused x n ≡ withPolicy o f
 unfolding withPolicy
 policy-refused o f q = rw q
 
-pub policy-read : (o : PolicyRead) (f : Policy → Answer) (p : Policy) → o ≡ read p → f p ≡ withPolicy o f
+pub policy-read : {X : Type 0} (o : PolicyRead) (f : Policy → Answer X) (p : Policy) → o ≡ read p → f p ≡ withPolicy o f
 unfolding withPolicy
 policy-read o f p q = rw q

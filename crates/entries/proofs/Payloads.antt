@@ -42,7 +42,7 @@ module _ (o : Option Text) (t : Text) where
 -- ---- what a payload without a fault gets
 
 module _ (key : ℕ) (policy t : Text) (u : HeldUnrecognised) where
-  pub answer-pass : u ≡ Held.Pass → unrecognised key (asUnrecognised policy u) t ≡ done t []
+  pub answer-pass : u ≡ Held.Pass → unrecognised key (asUnrecognised policy u) t ≡ done t
   unfolding unrecognised asUnrecognised
   answer-pass e = rw e
 
@@ -50,7 +50,7 @@ module _ (key : ℕ) (policy t : Text) (u : HeldUnrecognised) where
   unfolding unrecognised asUnrecognised
   answer-refuse e = rw e
 
-  pub answer-apply : {a : HeldAction} → u ≡ Held.Apply a → unrecognised key (asUnrecognised policy u) t ≡ done (writtenOr t (A.apply key (asAction policy a) t)) []
+  pub answer-apply : {a : HeldAction} → u ≡ Held.Apply a → unrecognised key (asUnrecognised policy u) t ≡ done (writtenOr t (A.apply key (asAction policy a) t))
   unfolding unrecognised asUnrecognised
   answer-apply e = rw e
 
@@ -65,7 +65,7 @@ apply-short key policy u e h = rw e at h
 
 -- ---- the payload's faults
 
-module _ (t : Text) (x : Answer) where
+module _ (t : Text) (x : Answer Text) where
   pub fault-long : 32768 < length t → withoutFault (payloadFault t) x ≡ refused TooLong 0
   unfolding payloadFault tooLong withoutFault
   fault-long h = rw (lt-ltb 32768 (length t) h)

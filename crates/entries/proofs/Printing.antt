@@ -16,7 +16,7 @@ use Rattle.policy_model.specs.Builtin.{builtinText}
 use Rattle.policy_print.specs.declared.print.Printed.{Printed}
 use Rattle.policy_print.specs.declared.print.Printed.the-variants.{Written, Refused}
 use Rattle.policy_print.specs.Print.{PrintedIs, printedOf, bufferOf, mergedRead, appended, builtinRead}
-use Rattle.run_model.specs.Entries.{done, refused, withPolicy, printed, mergedAnswer}
+use Rattle.run_model.specs.Entries.{Answer, done, refused, withPolicy, printed, mergedAnswer}
 use Rattle.entries.specs.Inner.{WrittenIn}
 
 -- ---- what was printed
@@ -36,7 +36,7 @@ pub written-fits : {m n : ℕ} {r : Printed} → r ≡ Written n → WrittenIn m
 written-fits e h = rw e at h
 
 -- the answer for what was read
-pub answer-written : (o : PolicyRead) {d d′ : Text} {n : ℕ} → PrintedIs o d d′ (Written n) → withPolicy o printed ≡ done (take n d′) []
+pub answer-written : (o : PolicyRead) {d d′ : Text} {n : ℕ} → PrintedIs o d d′ (Written n) → withPolicy o printed ≡ done (take n d′)
 unfolding printedOf bufferOf withPolicy printed put
 answer-written (read p) {d} {d′} {n} g =
     let e : n ≡ length (printPolicy p) = written n (length (printPolicy p)) (g .result) in
@@ -57,7 +57,7 @@ answer-refused (read p) {d} {d′} {x} {n} g = never x n (length (printPolicy p)
     never x k n h = cc
 answer-refused (Q.refused y m) {d} {d′} {x} {n} g = same x y n m (g .result)
   where
-    same : (x y : Refusal) (n m : ℕ) → Refused x n ≡ Refused y m → refused y m ≡ refused x n
+    same : (x y : Refusal) (n m : ℕ) → Refused x n ≡ Refused y m → _≡_ {A = Answer Text} (refused y m) (refused x n)
     same x y n m h = cc
 
 -- ---- the answers of print, append and built-in

@@ -1,4 +1,4 @@
 // The entries on slices: print, append, built-in and payload, with the parts that every entry shares.
-pub mod handed;
 pub mod payload;
 pub mod print;
+pub mod returned;

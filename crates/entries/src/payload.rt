@@ -1,8 +1,8 @@
 // The entry payload: what is no message passes, is refused, or gets an action.
-use super::handed::Handed;
-use super::handed::finish_text;
-use super::handed::is_short;
-use super::handed::refuse_text;
+use super::returned::Returned;
+use super::returned::finish;
+use super::returned::is_short;
+use super::returned::refuse;
 use er7_redact::action;
 use er7_redact::action::Action;
 use er7_redact::action::Applied;
@@ -12,7 +12,6 @@ use policy::policy::parse;
 use refusal::Refusal;
 use text::bytes::copy_at;
 ghost use mathlib.Core.Path.{_≡_};
-ghost use mathlib.Core.List.{[]};
 ghost use Prim.Native.Nat.{_≤_};
 ghost use lib.ListN.{length};
 ghost use Rattle.text.specs.Text.{all, Wrote};
@@ -21,7 +20,7 @@ ghost use Rattle.er7_redact.specs.Action as Actions;
 ghost use Rattle.policy.specs.Line.{asUnrecognised, UnrecognisedHeld};
 ghost use Rattle.run_model.specs.Entries.{outcome, withoutFault, isPayloadByte, payloadFault, writtenOr, payloadOutcome};
 ghost use Rattle.run_model.specs.Entries as Spec;
-ghost use Rattle.entries.specs.Handed.{lent, asOutcome};
+ghost use Rattle.entries.specs.Returned.{lent, asOutcome};
 ghost use Rattle.entries.specs.Inner.{NeverLong, UnrecognisedShort};
 
 // Whether b may stand in a payload.
@@ -64,19 +63,19 @@ fn answer_payload(
     key: u64,
     output: &mut [u8],
     scratch: &mut [u8],
-) -> Handed
+) -> Returned
     requires { ⌜ UnrecognisedHeld (now policy) u × UnrecognisedShort key (asUnrecognised (now policy) u) × (length (now payload) ≤ 49152) × (49152 ≤ length (now output)) ⌝ }
-    ensures { λ r. ⌜ asOutcome r (now (output .exit)) [] (now (scratch .exit)) ≡ outcome (lent (length (now (output .entry))) 0 (length (now (scratch .entry)))) (Spec.unrecognised key (asUnrecognised (now (policy .entry)) u) (now (payload .entry))) ⌝ }
+    ensures { λ r. ⌜ asOutcome r (now (output .exit)) (now (scratch .exit)) ≡ outcome (lent (length (now (output .entry))) (length (now (scratch .entry)))) (Spec.unrecognised key (asUnrecognised (now (policy .entry)) u) (now (payload .entry))) ⌝ }
 {
     match u {
         Unrecognised::Pass => {
             let n = copy_at(output, 0, payload);
-            finish_text(n, output, scratch)
+            finish(n, output, scratch)
         }
-        Unrecognised::Refuse => refuse_text(Refusal::Withheld, 0, output, scratch),
+        Unrecognised::Refuse => refuse(Refusal::Withheld, 0, output, scratch),
         Unrecognised::Apply(a) => {
             let n = put_applied(a, policy, key, payload, output);
-            finish_text(n, output, scratch)
+            finish(n, output, scratch)
         }
     }
 }
@@ -89,15 +88,15 @@ fn judge(
     key: u64,
     output: &mut [u8],
     scratch: &mut [u8],
-) -> Handed
+) -> Returned
     requires { ⌜ UnrecognisedHeld (now policy) u × UnrecognisedShort key (asUnrecognised (now policy) u) × (49152 ≤ length (now output)) ⌝ }
-    ensures { λ r. ⌜ asOutcome r (now (output .exit)) [] (now (scratch .exit)) ≡ outcome (lent (length (now (output .entry))) 0 (length (now (scratch .entry)))) (withoutFault (payloadFault (now (payload .entry))) (Spec.unrecognised key (asUnrecognised (now (policy .entry)) u) (now (payload .entry)))) ⌝ }
+    ensures { λ r. ⌜ asOutcome r (now (output .exit)) (now (scratch .exit)) ≡ outcome (lent (length (now (output .entry))) (length (now (scratch .entry)))) (withoutFault (payloadFault (now (payload .entry))) (Spec.unrecognised key (asUnrecognised (now (policy .entry)) u) (now (payload .entry)))) ⌝ }
 {
     if 32768 < payload.len() {
-        return refuse_text(Refusal::TooLong, 0, output, scratch);
+        return refuse(Refusal::TooLong, 0, output, scratch);
     }
     if !are_payload_bytes(payload) {
-        return refuse_text(Refusal::ForeignByte, 0, output, scratch);
+        return refuse(Refusal::ForeignByte, 0, output, scratch);
     }
     answer_payload(u, payload, policy, key, output, scratch)
 }
@@ -109,11 +108,11 @@ pub fn payload(
     key: u64,
     output: &mut [u8],
     scratch: &mut [u8],
-) -> Handed
-    ensures { λ r. ⌜ asOutcome r (now (output .exit)) [] (now (scratch .exit)) ≡ payloadOutcome (lent (length (now (output .entry))) 0 (length (now (scratch .entry)))) (now (payload .entry)) (now (policy .entry)) key ⌝ }
+) -> Returned
+    ensures { λ r. ⌜ asOutcome r (now (output .exit)) (now (scratch .exit)) ≡ payloadOutcome (lent (length (now (output .entry))) (length (now (scratch .entry)))) (now (payload .entry)) (now (policy .entry)) key ⌝ }
 {
     if is_short(output.len(), scratch.len()) {
-        return refuse_text(Refusal::ShortBuffer, 0, output, scratch);
+        return refuse(Refusal::ShortBuffer, 0, output, scratch);
     }
     let parsed = parse(policy);
     let held = parsed.policy;
@@ -121,6 +120,6 @@ pub fn payload(
     let verdict = parsed.verdict;
     match verdict {
         Verdict::Read => judge(u, payload, policy, key, output, scratch),
-        Verdict::Refused(refusal, line) => refuse_text(refusal, line, output, scratch),
+        Verdict::Refused(refusal, line) => refuse(refusal, line, output, scratch),
     }
 }

@@ -9,7 +9,7 @@ use lib.ListN.{length, drop, replicate}
 use Rattle.text.specs.Text.{Text, bytes, same, all, begins}
 use Rattle.er7.specs.Path.{Path, readPath, printPath}
 use Rattle.pseudonym.specs.Pseudonym.{OFFSET, fold}
-use Rattle.er7_redact.specs.Action.{Action, first, last, readAction, printAction, apply}
+use Rattle.er7_redact.specs.Action.{Action, kind, keep, clear, null, pseudonym, replace, mask, first, last, readAction, apply}
 use Rattle.er7.specs.declared.separators.Separators.{Separators}
 use Rattle.refusal.specs.declared.Refusal.{Refusal}
 use Rattle.refusal.specs.Refusal.{number}
@@ -17,8 +17,9 @@ use Rattle.message_model.specs.Message.{Leaf, leaf, Segment, segment, messageOf
 use Rattle.message_model.specs.Value.{value, encode, isWholeWord}
 use Rattle.policy_model.specs.Policy.{PolicyRead, read, refused, readPolicy, printPolicy}
 use Rattle.striplog_text.specs.Striplog.{readKey, stripped}
+use Rattle.policy_model.specs.Builtin.{builtinText}
 use Rattle.run_model.specs.Entries as E
-use Rattle.run_model.specs.Entries.{Lent, Outcome, Answer, done, redactAnswer, redactOutcome, appendAnswer, builtinAnswer, payloadAnswer}
+use Rattle.run_model.specs.Entries.{Lent, LentReport, RedactOutcome, Redaction, Answer, done, redactAnswer, redactOutcome, appendAnswer, builtinAnswer, payloadAnswer}
 
 pub data Row : Type 0 where
   -- the text reads as this path, with its segment, occurrence, field, repetition, component and subcomponent
@@ -52,8 +53,9 @@ pub data Row : Type 0 where
   redact-refused : String → String → ℕ → ℕ → Row
   -- two policies are merged and printed so
   appends : String → String → String → Row
-  -- the built-in of this number prints so
+  -- the built-in of this number prints so; it reads as so many rules
   builtin-prints : ℕ → String → Row
+  builtin-rules : ℕ → ℕ → Row
   -- a payload under a policy and key 0 becomes the third text
   payload-becomes : String → String → String → Row
   -- a payload under a policy is refused with this number
@@ -77,9 +79,19 @@ samePath p q =
     same (p .segment) (q .segment) && eqb (p .occurrence) (q .occurrence) && eqb (p .field) (q .field) && eqb (p .repetition) (q .repetition)
     && eqb (p .component) (q .component) && eqb (p .subcomponent) (q .subcomponent)
 
--- two actions that print alike are one action
+-- what an action has beside its kind: a replacement, a character or a count, or nothing
+unfoldable pub operandOf : Action → Text
+operandOf keep = []
+operandOf clear = []
+operandOf null = []
+operandOf pseudonym = []
+operandOf (replace t) = t
+operandOf (mask c) = c ∷ []
+operandOf (first n) = n ∷ []
+operandOf (last n) = n ∷ []
+
 unfoldable pub sameAction : Action → Action → Bool
-sameAction a b = same (printAction a) (printAction b)
+sameAction a b = eqb (kind a) (kind b) && same (operandOf a) (operandOf b)
 
 unfoldable pub is : {X : Type 0} → (X → X → Bool) → Option X → X → Bool
 is f none y = false
@@ -104,6 +116,10 @@ policyPrints (refused e n) t = false
 unfoldable pub policyRefused : PolicyRead → ℕ → ℕ → Bool
 policyRefused (read p) n l = false
 policyRefused (refused e k) n l = eqb (number e) n && eqb k l
+
+unfoldable pub ruleCount : PolicyRead → ℕ
+ruleCount (read p) = length (p .rules)
+ruleCount (refused e n) = 0
 
 unfoldable pub faultNumber : Option Refusal → ℕ
 faultNumber none = 0
@@ -131,9 +147,12 @@ unfoldable pub times : ℕ → Text → Text
 times zero t = []
 times (suc k) t = t ++ times k t
 
--- the buffers that striplog lends
+-- the buffers that every entry is lent, and with the report those that striplog lends
 unfoldable pub lent : Lent
-lent = record { output = 49152; report = 65536; scratch = 49152 }
+lent = record { output = 49152; scratch = 49152 }
+
+unfoldable pub lentReport : LentReport
+lentReport = record { buffers = lent; report = 65536 }
 
 unfoldable pub isZero : ℕ → Bool
 isZero x = eqb x 0
@@ -142,17 +161,21 @@ isZero x = eqb x 0
 unfoldable pub holds : Text → Text → ℕ → Bool
 holds d t n = begins t d && all isZero (drop (length t) d) && eqb (length d) n
 
-unfoldable pub sameOutcome : Outcome → Text → Text → ℕ → Bool
+unfoldable pub sameOutcome : RedactOutcome → Text → Text → ℕ → Bool
 sameOutcome o t r n =
     eqb (o .number) 0 && eqb (o .line) 0 && eqb (o .textLength) (length t) && eqb (o .reportLength) (length r) && eqb (o .rows) n
-    && holds (o .output) t (lent .output) && holds (o .report) r (lent .report) && holds (o .scratch) [] (lent .scratch)
+    && holds (o .output) t (lent .output) && holds (o .report) r (lentReport .report) && holds (o .scratch) [] (lent .scratch)
 
-unfoldable pub gives : Answer → Text → Bool
-gives (done t ρs) u = same t u
+unfoldable pub gives : Answer Text → Text → Bool
+gives (done t) u = same t u
 gives (E.refused e n) u = false
 
-unfoldable pub refuses : Answer → ℕ → ℕ → Bool
-refuses (done t ρs) n l = false
+unfoldable pub redactsTo : Answer Redaction → Text → Bool
+redactsTo (done d) u = same (d .text) u
+redactsTo (E.refused e n) u = false
+
+unfoldable pub refuses : {X : Type 0} → Answer X → ℕ → ℕ → Bool
+refuses (done x) n l = false
 refuses (E.refused e k) n l = eqb (number e) n && eqb k l
 
 -- ---- the table
@@ -172,11 +195,12 @@ right (message-fault s n) = eqb (faultNumber (messageFault (bytes s))) n
 right (message-prints s) = same (printMessage (messageOf (bytes s))) (bytes s)
 right (leaves-are s ns) = same (lastLeaves (messageOf (bytes s) .segments)) ns
 right (value-is s v w) = same (value usual (bytes s)) (bytes v) && same (encode usual (bytes v)) (bytes w)
-right (redacts m p key t r n) = sameOutcome (redactOutcome lent (bytes m) (bytes p) key) (bytes t) (bytes r) n
-right (not-slipped m p t u) = gives (redactAnswer lent (bytes m) (bytes p) 0) (bytes t) && not (gives (redactAnswer lent (bytes m) (bytes p) 0) (bytes u))
-right (redact-refused m p n l) = refuses (redactAnswer lent (bytes m) (bytes p) 0) n l
+right (redacts m p key t r n) = sameOutcome (redactOutcome lentReport (bytes m) (bytes p) key) (bytes t) (bytes r) n
+right (not-slipped m p t u) = redactsTo (redactAnswer lentReport (bytes m) (bytes p) 0) (bytes t) && not (redactsTo (redactAnswer lentReport (bytes m) (bytes p) 0) (bytes u))
+right (redact-refused m p n l) = refuses (redactAnswer lentReport (bytes m) (bytes p) 0) n l
 right (appends p q t) = gives (appendAnswer lent (bytes p) (bytes q)) (bytes t)
 right (builtin-prints n t) = gives (builtinAnswer lent n) (bytes t)
+right (builtin-rules n k) = eqb (ruleCount (readPolicy (builtinText n))) k
 right (payload-becomes s p t) = gives (payloadAnswer lent (bytes s) (bytes p) 0) (bytes t)
 right (payload-refused s p n) = refuses (payloadAnswer lent (bytes s) (bytes p) 0) n 0
 right (rules-give k n l) = policyFault (readPolicy (times k (bytes "PID keep\n"))) n l
@@ -238,6 +262,7 @@ table =
     ∷ appends "PID-3 mask\nreject clear" "OBX[2]-5 keep\nunrecognised pass\nknown-values off" "PID-3     mask *\nOBX[2]-5  keep\n\nreject        clear\nunrecognised  pass\nknown-values  on\n"
     ∷ builtin-prints 0 "accept\nunrecognised  pass\nknown-values  on\n"
     ∷ builtin-prints 1 "reject        replace REDACTED\nunrecognised  mask *\nknown-values  on\n"
+    ∷ builtin-rules 2 40
     ∷ builtin-prints 3 "MSH  keep\n\nreject        replace REDACTED\nunrecognised  refuse\nknown-values  on\n"
     ∷ payload-becomes "{\"patient\": 1}\r\n" "unrecognised mask # all" "****************"
     ∷ payload-becomes "a|b" "unrecognised keep" "a|b"
@@ -249,6 +274,7 @@ table =
     ∷ segments-give 256 1 3 6
     ∷ segments-give 89 46 3 0
     ∷ segments-give 90 46 3 6
+    ∷ redacts "MSH|^~\\&|A\rPID|1||555-1111^x~y|Z\rOBX|1|NM|KCAL||100\r" "PID-3 null\n" 0 "MSH|^~\\&|A\rPID|1||\"\"|Z\rOBX|1|NM|KCAL||100\r" "PID[1]-3[1].1.1 null\n" 1
     ∷ redacts "MSH|^~\\&|A\rPID|1||4412\rOBX|1|NM|KCAL||4412 kcal\r" "PID-3 mask\nknown-values on\n" 0 "MSH|^~\\&|A\rPID|1||****\rOBX|1|NM|KCAL||*********\r" "PID[1]-3[1].1.1 mask *\nOBX[1]-5[1].1.1 mask *\n" 2
     ∷ key-is "0" 0
     ∷ key-is "007\n" 7

@@ -1,13 +1,16 @@
 -- What an entry for C hands back. Assumes nothing: these are definitions.
 use Prim.Native.Nat.{ℕ}
 use Rattle.text.specs.Text.{Text}
-use Rattle.run_model.specs.Entries.{Outcome}
+use Rattle.run_model.specs.Entries.{Outcome, RedactOutcome}
 
 -- "The gym's gateway is a C program and calls the five entries .. with numbers and byte slices": the result, then what the call leaves
--- behind its pointers: line, length of the text, length of the report, rows; output, report, scratch. Where an entry has no report, its
--- contract puts 0, 0 and no bytes
-unfoldable pub handedBack : ℕ → ℕ → ℕ → ℕ → ℕ → Text → Text → Text → Outcome
-handedBack r l t p n o ρ s =
+-- behind its pointers: line and length of the text; output, scratch
+unfoldable pub outcomeOf : ℕ → ℕ → ℕ → Text → Text → Outcome
+outcomeOf r l t o s = record { number = r; line = l; textLength = t; output = o; scratch = s }
+
+-- .. and of redact: line, length of the text, length of the report, rows; output, report, scratch
+unfoldable pub redactOutcomeOf : ℕ → ℕ → ℕ → ℕ → ℕ → Text → Text → Text → RedactOutcome
+redactOutcomeOf r l t p n o ρ s =
     record {
       number = r;
       line = l;

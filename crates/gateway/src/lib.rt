@@ -5,11 +5,10 @@ use entries::print::builtin;
 use entries::print::print;
 use redact::redact::redact;
 ghost use mathlib.Core.Path.{_≡_};
-ghost use mathlib.Core.List.{[]};
 ghost use lib.ListN.{length};
 ghost use Rattle.run_model.specs.Entries.{redactOutcome, printOutcome, appendOutcome, builtinOutcome, payloadOutcome};
-ghost use Rattle.entries.specs.Handed.{lent};
-ghost use Rattle.gateway.specs.Gateway.{handedBack};
+ghost use Rattle.entries.specs.Returned.{lent, lentReport};
+ghost use Rattle.gateway.specs.Gateway.{outcomeOf, redactOutcomeOf};
 
 // Redacts a message: its text goes to output, the rows of what was changed to report.
 #[no_mangle]
@@ -25,7 +24,7 @@ pub extern "C" fn er7_redact(
     rows: &mut u64,
     line: &mut u64,
 ) -> u32
-    ensures { λ r. ⌜ handedBack r (now (line .exit)) (now («text_len» .exit)) (now («report_len» .exit)) (now (rows .exit)) (now (output .exit)) (now (report .exit)) (now (scratch .exit)) ≡ redactOutcome (lent (length (now (output .entry))) (length (now (report .entry))) (length (now (scratch .entry)))) (now (message .entry)) (now (policy .entry)) key ⌝ }
+    ensures { λ r. ⌜ redactOutcomeOf r (now (line .exit)) (now («text_len» .exit)) (now («report_len» .exit)) (now (rows .exit)) (now (output .exit)) (now (report .exit)) (now (scratch .exit)) ≡ redactOutcome (lentReport (length (now (output .entry))) (length (now (report .entry))) (length (now (scratch .entry)))) (now (message .entry)) (now (policy .entry)) key ⌝ }
 {
     let redacted = redact(message, policy, key, output, report, scratch);
     *text_len = redacted.text_len;
@@ -44,7 +43,7 @@ pub extern "C" fn er7_print(
     text_len: &mut u64,
     line: &mut u64,
 ) -> u32
-    ensures { λ r. ⌜ handedBack r (now (line .exit)) (now («text_len» .exit)) 0 0 (now (output .exit)) [] (now (scratch .exit)) ≡ printOutcome (lent (length (now (output .entry))) 0 (length (now (scratch .entry)))) (now (policy .entry)) ⌝ }
+    ensures { λ r. ⌜ outcomeOf r (now (line .exit)) (now («text_len» .exit)) (now (output .exit)) (now (scratch .exit)) ≡ printOutcome (lent (length (now (output .entry))) (length (now (scratch .entry)))) (now (policy .entry)) ⌝ }
 {
     let printed = print(policy, output, scratch);
     *text_len = printed.text_len;
@@ -62,7 +61,7 @@ pub extern "C" fn er7_append(
     text_len: &mut u64,
     line: &mut u64,
 ) -> u32
-    ensures { λ r. ⌜ handedBack r (now (line .exit)) (now («text_len» .exit)) 0 0 (now (output .exit)) [] (now (scratch .exit)) ≡ appendOutcome (lent (length (now (output .entry))) 0 (length (now (scratch .entry)))) (now (first .entry)) (now (second .entry)) ⌝ }
+    ensures { λ r. ⌜ outcomeOf r (now (line .exit)) (now («text_len» .exit)) (now (output .exit)) (now (scratch .exit)) ≡ appendOutcome (lent (length (now (output .entry))) (length (now (scratch .entry)))) (now (first .entry)) (now (second .entry)) ⌝ }
 {
     let merged = append(first, second, output, scratch);
     *text_len = merged.text_len;
@@ -79,7 +78,7 @@ pub extern "C" fn er7_builtin(
     text_len: &mut u64,
     line: &mut u64,
 ) -> u32
-    ensures { λ r. ⌜ handedBack r (now (line .exit)) (now («text_len» .exit)) 0 0 (now (output .exit)) [] (now (scratch .exit)) ≡ builtinOutcome (lent (length (now (output .entry))) 0 (length (now (scratch .entry)))) number ⌝ }
+    ensures { λ r. ⌜ outcomeOf r (now (line .exit)) (now («text_len» .exit)) (now (output .exit)) (now (scratch .exit)) ≡ builtinOutcome (lent (length (now (output .entry))) (length (now (scratch .entry)))) number ⌝ }
 {
     let named = builtin(number, output, scratch);
     *text_len = named.text_len;
@@ -98,7 +97,7 @@ pub extern "C" fn er7_payload(
     text_len: &mut u64,
     line: &mut u64,
 ) -> u32
-    ensures { λ r. ⌜ handedBack r (now (line .exit)) (now («text_len» .exit)) 0 0 (now (output .exit)) [] (now (scratch .exit)) ≡ payloadOutcome (lent (length (now (output .entry))) 0 (length (now (scratch .entry)))) (now (payload .entry)) (now (policy .entry)) key ⌝ }
+    ensures { λ r. ⌜ outcomeOf r (now (line .exit)) (now («text_len» .exit)) (now (output .exit)) (now (scratch .exit)) ≡ payloadOutcome (lent (length (now (output .entry))) (length (now (scratch .entry)))) (now (payload .entry)) (now (policy .entry)) key ⌝ }
 {
     let answered = payload::payload(payload, policy, key, output, scratch);
     *text_len = answered.text_len;

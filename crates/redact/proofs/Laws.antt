@@ -22,7 +22,7 @@ use Rattle.policy_model.specs.Policy as Q
 use Rattle.policy_model.specs.Policy.{Policy, PolicyRead, read, readPolicy}
 use Rattle.run_model.specs.Redact as R
 use Rattle.run_model.specs.Redact.{redact, redactFrom, printRows}
-use Rattle.run_model.specs.Entries.{Answer, done, refused, Lent, Outcome, outcome, withPolicy, withoutFault, reported, withBuffers, isShort}
+use Rattle.run_model.specs.Entries.{Answer, done, refused, Redaction, RedactOutcome, outcomeWithReport, withPolicy, withoutFault, reported, withBuffers, isShort}
 use Rattle.run_model.proofs.Chains.{message-fields-first}
 use Rattle.run_model.proofs.Sizes.{redacted-fits}
 use Rattle.er7_table.specs.Filling.{LeafRoom}
@@ -35,11 +35,11 @@ use Rattle.text.proofs.Kept.{wrote-part}
 use Rattle.redact_1_run.specs.declared.core.Redacted.{Redacted}
 use Rattle.redact_1_run.specs.declared.core.Redacted.the-variants as Run
 use Rattle.redact_1_run.specs.Ran.{Loaded, AnyLoaded, Left, RedactedIs}
-use Rattle.entries.specs.Handed.{lent}
+use Rattle.entries.specs.Returned.{lent, lentReport}
 use Rattle.entries.proofs.Outcomes as Outcomes
 use Rattle.redact.specs.declared.redact.Answer.{Answer as Given}
 use Rattle.redact.specs.declared.redact.Answer.the-variants.{Redacted as Whole, Refused}
-use Rattle.redact.specs.Answered.{Redaction, AnsweredAs}
+use Rattle.redact.specs.Answered.{Written, AnsweredAs}
 
 -- ---- a text that was written stands at the front
 
@@ -77,7 +77,7 @@ module _ {message : Text} {segs cells : List ℕ} {a : ParsedMessage} (p : Parse
   pub any-loaded : {counts : Counts} {policy : Text} → a ≡ Parsed.Read counts → length policy ≤ 32768 → AnyLoaded message policy (length message) counts segs cells
   any-loaded e h = record { message = messageOf message; loaded = parsed-loaded e h }
 
-  pub message-refused : {x : Refusal} {output report : Text} → a ≡ Parsed.Refused x → (y : Answer) → AnsweredAs (withoutFault (messageFault message) y) output report (Refused x 0)
+  pub message-refused : {x : Refusal} {output report : Text} → a ≡ Parsed.Refused x → (y : Answer Redaction) → AnsweredAs (withoutFault (messageFault message) y) output report (Refused x 0)
   unfolding withoutFault faultOf
   message-refused e y = record { out = rw (← p .is, e) }
 
@@ -89,7 +89,7 @@ unfolding redact
 alone key P message f = ap (λ (t : Text). redactFrom (length t) key P (messageOf message)) (sym (message-prints message f))
 
 module _ (key : ℕ) (P : Policy) (message : Text) (f : messageFault message ≡ none) {output output′ report′ : Text} {r : Redacted} (g : RedactedIs (redactFrom (length message) key P (messageOf message)) output output′ report′ r) where
-  pub run-refused : (b : Lent) {x : Refusal} {o ρ : Text} → r ≡ Run.Refused x → AnsweredAs (withoutFault (messageFault message) (reported b (redact key P (messageOf message)))) o ρ (Refused x 0)
+  pub run-refused : (b : ℕ) {x : Refusal} {o ρ : Text} → r ≡ Run.Refused x → AnsweredAs (withoutFault (messageFault message) (reported b (redact key P (messageOf message)))) o ρ (Refused x 0)
   unfolding withoutFault reported
   run-refused b {x} e =
       let q : RedactedIs (redactFrom (length message) key P (messageOf message)) output output′ report′ (Run.Refused x) = rw e at g in
@@ -99,17 +99,16 @@ module _ (key : ℕ) (P : Policy) (message : Text) (f : messageFault message ≡
     left : Left (redactFrom (length message) key P (messageOf message)) n k m output output′ report′
     left = (rw e at g) .out
 
-    pub report-full : (b : Lent) {o ρ : Text} → b .report < k → AnsweredAs (withoutFault (messageFault message) (reported b (redact key P (messageOf message)))) o ρ (Refused ReportTooLong 0)
+    pub report-full : (b : ℕ) {o ρ : Text} → b < k → AnsweredAs (withoutFault (messageFault message) (reported b (redact key P (messageOf message)))) o ρ (Refused ReportTooLong 0)
     unfolding withoutFault reported
-    report-full b h = record { out = rw (f, ← alone key P message f, left .is, ← left .reported .long, lt-ltb (b .report) k h) }
+    report-full b h = record { out = rw (f, ← alone key P message f, left .is, ← left .reported .long, lt-ltb b k h) }
 
-    pub run-done : (b : Lent) → 49152 ≤ length output → b .report ≡ length report′ → k ≤ length report′
+    pub run-done : (b : ℕ) → 49152 ≤ length output → b ≡ length report′ → k ≤ length report′
         → AnsweredAs (withoutFault (messageFault message) (reported b (redact key P (messageOf message)))) output′ report′ (Whole n k m)
     run-done b wide long fits =
         record {
           out = record {
-            text = left .text;
-            rows = left .rows;
+            gives = record { text = left .text; rows = left .rows };
             is = is;
             text-fits = omega (arith, left .long, short, wide, wrote-length wrote);
             text-is = wrote-taken wrote;
@@ -125,8 +124,8 @@ module _ (key : ℕ) (P : Policy) (message : Text) (f : messageFault message ≡
         wrote : Wrote output 0 (left .text) output′ n
         wrote = left .fits (omega (arith, short, wide))
 
-        is : withoutFault (messageFault message) (reported b (redact key P (messageOf message))) ≡ done (left .text) (left .rows)
-        is = unfold withoutFault reported in rw (f, ← alone key P message f, left .is, ← left .reported .long, le-ltb (b .report) k (omega (arith, long, fits)))
+        is : withoutFault (messageFault message) (reported b (redact key P (messageOf message))) ≡ done (record { text = left .text; rows = left .rows })
+        is = unfold withoutFault reported in rw (f, ← alone key P message f, left .is, ← left .reported .long, le-ltb b k (omega (arith, long, fits)))
 
 -- ---- the policy
 
@@ -143,41 +142,37 @@ read-not-long t p e = go (ltb 32768 (length t)) refl _ e
     go true q o h = clash (sym (ap is-read h))
     go false q o h = ltb-false 32768 (length t) q
 
-module _ (o : PolicyRead) (f : Policy → Answer) where
+module _ (o : PolicyRead) (f : Policy → Answer Redaction) where
   pub policy-refused : {x : Refusal} {n : ℕ} {output report : Text} → o ≡ Q.refused x n → AnsweredAs (withPolicy o f) output report (Refused x n)
   policy-refused e = record { out = sym (Outcomes.policy-refused o f e) }
 
   pub policy-read : {p : Policy} {output report : Text} {r : Given} → o ≡ read p → AnsweredAs (f p) output report r → AnsweredAs (withPolicy o f) output report r
-  policy-read {p} {output} {report} {r} e g = subst (λ (x : Answer). AnsweredAs x output report r) (Outcomes.policy-read o f p e) g
+  policy-read {p} {output} {report} {r} e g = subst (λ (x : Answer Redaction). AnsweredAs x output report r) (Outcomes.policy-read o f p e) g
 
 -- ---- what is handed back
 
-pub lent-report : (a ρ b : ℕ) → lent a ρ b .report ≡ ρ
-unfolding lent
-lent-report a ρ b = refl
-
 -- buffers keep their lengths
-same-lent : {a′ a ρ′ ρ : ℕ} (b : ℕ) (x : Answer) → a′ ≡ a → ρ′ ≡ ρ → outcome (lent a′ ρ′ b) x ≡ outcome (lent a ρ b) x
+same-lent : {a′ a ρ′ ρ : ℕ} (b : ℕ) (x : Answer Redaction) → a′ ≡ a → ρ′ ≡ ρ → outcomeWithReport (lentReport a′ ρ′ b) x ≡ outcomeWithReport (lentReport a ρ b) x
 same-lent b x e f = rw (e, f)
 
-module _ {x : Answer} {output report : Text} {r : Given} (g : AnsweredAs x output report r) where
-  pub answered-done : {n k m : ℕ} → r ≡ Whole n k m → Redaction x n k m output report
+module _ {x : Answer Redaction} {output report : Text} {r : Given} (g : AnsweredAs x output report r) where
+  pub answered-done : {n k m : ℕ} → r ≡ Whole n k m → Written x n k m output report
   answered-done e = (rw e at g) .out
 
   answered-refused : {e : Refusal} {n : ℕ} → r ≡ Refused e n → refused e n ≡ x
   answered-refused e = sym ((rw e at g) .out)
 
-  module _ (a ρ b : ℕ) (wide : isShort (lent a ρ b) ≡ false) (oh : length output ≡ a) (rh : length report ≡ ρ) where
-    pub handed-done : {o : Outcome} {n k m : ℕ} → r ≡ Whole n k m
-        → ((t : Text) (ρs : List R.Row) → take n output ≡ t → take k report ≡ printRows ρs → m ≡ length ρs → o ≡ outcome (lent (length output) (length report) b) (done t ρs))
-        → o ≡ outcome (lent a ρ b) (withBuffers (lent a ρ b) x)
-    handed-done e f =
+  module _ (a ρ b : ℕ) (wide : isShort (lent a b) ≡ false) (oh : length output ≡ a) (rh : length report ≡ ρ) where
+    pub returned-done : {o : RedactOutcome} {n k m : ℕ} → r ≡ Whole n k m
+        → ((d : Redaction) → take n output ≡ d .text → take k report ≡ printRows (d .rows) → m ≡ length (d .rows) → o ≡ outcomeWithReport (lentReport (length output) (length report) b) (done d))
+        → o ≡ outcomeWithReport (lentReport a ρ b) (withBuffers (lent a b) x)
+    returned-done e f =
         let q = answered-done e in
-        f (q .text) (q .rows) (q .text-is) (q .report-is) (q .count) ∙ same-lent b _ oh rh ∙ Outcomes.with-wide (lent a ρ b) x wide (sym (q .is))
+        f (q .gives) (q .text-is) (q .report-is) (q .count) ∙ same-lent b _ oh rh ∙ ap (outcomeWithReport (lentReport a ρ b)) (Outcomes.wide-answer (lent a b) x wide (sym (q .is)))
 
-    pub handed-refused : {o : Outcome} {y : Refusal} {n : ℕ} → r ≡ Refused y n → o ≡ outcome (lent (length output) (length report) b) (refused y n)
-        → o ≡ outcome (lent a ρ b) (withBuffers (lent a ρ b) x)
-    handed-refused e f = f ∙ same-lent b _ oh rh ∙ Outcomes.with-wide (lent a ρ b) x wide (answered-refused e)
+    pub returned-refused : {o : RedactOutcome} {y : Refusal} {n : ℕ} → r ≡ Refused y n → o ≡ outcomeWithReport (lentReport (length output) (length report) b) (refused y n)
+        → o ≡ outcomeWithReport (lentReport a ρ b) (withBuffers (lent a b) x)
+    returned-refused e f = f ∙ same-lent b _ oh rh ∙ ap (outcomeWithReport (lentReport a ρ b)) (Outcomes.wide-answer (lent a b) x wide (answered-refused e))
 
 -- ---- room in the table of leaves
 

@@ -1,8 +1,8 @@
 // Redacts a message by a policy and a key.
-use entries::handed::Handed;
-use entries::handed::finish;
-use entries::handed::is_short;
-use entries::handed::refuse;
+use entries::returned::ReturnedReport;
+use entries::returned::finish_report;
+use entries::returned::is_short;
+use entries::returned::refuse_report;
 use er7_message::message;
 use er7_message::message::ParsedMessage;
 use policy::policy::Policy;
@@ -18,9 +18,9 @@ ghost use Rattle.message_model.specs.Message.{messageOf, messageFault};
 ghost use Rattle.policy_model.specs.Policy.{readPolicy};
 ghost use Rattle.policy.specs.Policy.{asPolicy, PolicyHeld};
 ghost use Rattle.run_model.specs.Redact as Redact;
-ghost use Rattle.run_model.specs.Entries.{Lent, withPolicy, withoutFault, reported, redactOutcome};
+ghost use Rattle.run_model.specs.Entries.{withPolicy, withoutFault, reported, redactOutcome};
 ghost use Rattle.er7_table.specs.Filling.{LeafRoom};
-ghost use Rattle.entries.specs.Handed.{lent, asOutcome};
+ghost use Rattle.entries.specs.Returned.{lentReport, asRedactOutcome};
 ghost use Rattle.redact.specs.Answered.{AnsweredAs};
 
 // The lengths of the text and of the report, and how many rows it has; or a refusal with its line.
@@ -45,7 +45,7 @@ fn redact_in(
     report: &mut [u8],
 ) -> Answer
     requires { ⌜ PolicyHeld (now text) policy × (length (now text) ≤ 32768) × LeafRoom (now cells) (length (now message)) × (49152 ≤ length (now output)) ⌝ }
-    ensures { λ r. ⌜ ((b : Lent) → b .report ≡ length (now (report .entry)) → AnsweredAs (withoutFault (messageFault (now (message .entry))) (reported b (Redact.redact key (asPolicy (now (text .entry)) policy) (messageOf (now (message .entry)))))) (now (output .exit)) (now (report .exit)) r) ⌝ }
+    ensures { λ r. ⌜ AnsweredAs (withoutFault (messageFault (now (message .entry))) (reported (length (now (report .entry))) (Redact.redact key (asPolicy (now (text .entry)) policy) (messageOf (now (message .entry)))))) (now (output .exit)) (now (report .exit)) r ⌝ }
 {
     match message::parse(message, segs, cells) {
         ParsedMessage::Read(counts) => match redact_from(
@@ -90,7 +90,7 @@ fn redact_message(
     report: &mut [u8],
 ) -> Answer
     requires { ⌜ PolicyHeld (now text) policy × (length (now text) ≤ 32768) × (49152 ≤ length (now output)) ⌝ }
-    ensures { λ r. ⌜ ((b : Lent) → b .report ≡ length (now (report .entry)) → AnsweredAs (withoutFault (messageFault (now (message .entry))) (reported b (Redact.redact key (asPolicy (now (text .entry)) policy) (messageOf (now (message .entry)))))) (now (output .exit)) (now (report .exit)) r) ⌝ }
+    ensures { λ r. ⌜ AnsweredAs (withoutFault (messageFault (now (message .entry))) (reported (length (now (report .entry))) (Redact.redact key (asPolicy (now (text .entry)) policy) (messageOf (now (message .entry)))))) (now (output .exit)) (now (report .exit)) r ⌝ }
 {
     let mut segs = [0usize; 2056];
     if message.len() <= 1024 {
@@ -128,7 +128,7 @@ fn redact_by(
     report: &mut [u8],
 ) -> Answer
     requires { ⌜ 49152 ≤ length (now output) ⌝ }
-    ensures { λ r. ⌜ ((b : Lent) → b .report ≡ length (now (report .entry)) → AnsweredAs (withPolicy (readPolicy (now (policy .entry))) λ P. withoutFault (messageFault (now (message .entry))) (reported b (Redact.redact key P (messageOf (now (message .entry)))))) (now (output .exit)) (now (report .exit)) r) ⌝ }
+    ensures { λ r. ⌜ AnsweredAs (withPolicy (readPolicy (now (policy .entry))) λ P. withoutFault (messageFault (now (message .entry))) (reported (length (now (report .entry))) (Redact.redact key P (messageOf (now (message .entry)))))) (now (output .exit)) (now (report .exit)) r ⌝ }
 {
     let parsed = parse(policy);
     let held = parsed.policy;
@@ -147,18 +147,18 @@ pub fn redact(
     output: &mut [u8],
     report: &mut [u8],
     scratch: &mut [u8],
-) -> Handed
-    ensures { λ r. ⌜ asOutcome r (now (output .exit)) (now (report .exit)) (now (scratch .exit)) ≡ redactOutcome (lent (length (now (output .entry))) (length (now (report .entry))) (length (now (scratch .entry)))) (now (message .entry)) (now (policy .entry)) key ⌝ }
+) -> ReturnedReport
+    ensures { λ r. ⌜ asRedactOutcome r (now (output .exit)) (now (report .exit)) (now (scratch .exit)) ≡ redactOutcome (lentReport (length (now (output .entry))) (length (now (report .entry))) (length (now (scratch .entry)))) (now (message .entry)) (now (policy .entry)) key ⌝ }
 {
     if is_short(output.len(), scratch.len()) {
-        return refuse(Refusal::ShortBuffer, 0, output, report, scratch);
+        return refuse_report(Refusal::ShortBuffer, 0, output, report, scratch);
     }
     match redact_by(message, policy, key, output, report) {
         Answer::Redacted {
             text_len,
             report_len,
             rows,
-        } => finish(text_len, report_len, rows, output, report, scratch),
-        Answer::Refused(refusal, line) => refuse(refusal, line, output, report, scratch),
+        } => finish_report(text_len, report_len, rows, output, report, scratch),
+        Answer::Refused(refusal, line) => refuse_report(refusal, line, output, report, scratch),
     }
 }

@@ -17,8 +17,8 @@ use Rattle.policy_model.specs.Policy.{Policy, PolicyRead, read, readPolicy, Unr
 use Rattle.policy_model.specs.Builtin.{builtinText}
 use Rattle.policy_model.proofs.PolicyReadBack.{builtin-reads}
 use Rattle.run_model.specs.Redact.{redact}
-use Rattle.run_model.specs.Entries.{Answer, done, refused, Lent, outcome, isShort, withBuffers, withPolicy, withoutFault, reported, redactAnswer, printed, printAnswer, mergedAnswer, appendAnswer, builtinAnswer, isPayloadByte, payloadFault, unrecognised, payloadAnswer, redactOutcome, printOutcome, appendOutcome, builtinOutcome, payloadOutcome}
-use Rattle.run_model.specs.Table.{is, bufferRow, policyRow, withPolicyRow, messageRow, runRow, rowOfRedact, rowOfPrint, rowOfAppend, rowOfBuiltin, refuses, rowOfPayload}
+use Rattle.run_model.specs.Entries.{Answer, done, refused, Lent, LentReport, numberOf, outcome, outcomeWithReport, isShort, withBuffers, withPolicy, withoutFault, reported, redactAnswer, printed, printAnswer, mergedAnswer, appendAnswer, builtinAnswer, isPayloadByte, payloadFault, unrecognised, payloadAnswer, redactOutcome, printOutcome, appendOutcome, builtinOutcome, payloadOutcome}
+use Rattle.run_model.specs.Table.{is, bufferRow, policyRow, withPolicyRow, messageRow, runRow, rowOfRedact, rowOfPrint, rowOfAppend, rowOfBuiltin, refuses, rowOfPayload, Exactly}
 use Rattle.run_model.proofs.Accepted.{number-positive}
 use Rattle.run_model.proofs.Judged.{Judges, or-false, or-left, or-right, and-none, policyRefusal, policy-judged, message-judged}
 use Rattle.run_model.proofs.Booked.{refusalIn, run-judged}
@@ -33,7 +33,7 @@ both-judged f g (some e) h k = or-right (f e) k
 first-judged : (f g : Refusal → Bool) (e : Refusal) → Judges f (some e) → Judges (λ x. f x || g x) (some e)
 first-judged f g e h = or-left (g e) h
 
-buffers-judged : (b : Lent) (g : Refusal → Bool) (a : Answer) → Judges g (refusalIn a) → Judges (λ e. bufferRow b e || g e) (refusalIn (withBuffers b a))
+buffers-judged : {X : Type 0} (b : Lent) (g : Refusal → Bool) (a : Answer X) → Judges g (refusalIn a) → Judges (λ e. bufferRow b e || g e) (refusalIn (withBuffers b a))
 unfolding withBuffers bufferRow
 buffers-judged b g a h = go (isShort b) refl
   where
@@ -42,7 +42,7 @@ buffers-judged b g a h = go (isShort b) refl
     go false e = both-judged (λ x. is x ShortBuffer && isShort b) g (refusalIn a) (λ x. and-none (is x ShortBuffer) e) h
 
 -- a policy and what is done with it: g says what rows apply then
-policy-then : (s : Text) (g : PolicyRead → Refusal → Bool) (f : Policy → Answer) → ((P : Policy) → readPolicy s ≡ read P → Judges (g (read P)) (refusalIn (f P)))
+policy-then : {X : Type 0} (s : Text) (g : PolicyRead → Refusal → Bool) (f : Policy → Answer X) → ((P : Policy) → readPolicy s ≡ read P → Judges (g (read P)) (refusalIn (f P)))
     → Judges (λ e. policyRow s e || g (readPolicy s) e) (refusalIn (withPolicy (readPolicy s) f))
 unfolding policyRefusal withPolicy refusalIn
 policy-then s g f h = go (readPolicy s) refl (policy-judged s)
@@ -51,7 +51,7 @@ policy-then s g f h = go (readPolicy s) refl (policy-judged s)
     go (read P) q k = both-judged (policyRow s) (g (read P)) (refusalIn (f P)) k (h P q)
     go (Q.refused e n) q k = or-left (g (Q.refused e n) e) k
 
-fault-then : (f g : Refusal → Bool) (o : Option Refusal) (a : Answer) → Judges f o → Judges g (refusalIn a)
+fault-then : {X : Type 0} (f g : Refusal → Bool) (o : Option Refusal) (a : Answer X) → Judges f o → Judges g (refusalIn a)
     → Judges (λ e. f e || g e) (refusalIn (withoutFault o a))
 unfolding withoutFault refusalIn
 fault-then f g none a h k = both-judged f g (refusalIn a) h k
@@ -59,14 +59,14 @@ fault-then f g (some e) a h k = or-left (g e) h
 
 -- ---- the five entries
 
-redact-judged : (b : Lent) (m p : Text) (key : ℕ) → Judges (rowOfRedact b m p key) (refusalIn (redactAnswer b m p key))
+redact-judged : (b : LentReport) (m p : Text) (key : ℕ) → Judges (rowOfRedact b m p key) (refusalIn (redactAnswer b m p key))
 unfolding rowOfRedact redactAnswer withPolicyRow
 redact-judged b m p key =
-    buffers-judged b _ _
-    (policy-then p (λ r e. messageRow m e || withPolicyRow r λ P. runRow (length (printMessage (messageOf m))) b key P (messageOf m) e)
-    (λ P. withoutFault (messageFault m) (reported b (redact key P (messageOf m))))
-    (λ P q. fault-then (messageRow m) (runRow (length (printMessage (messageOf m))) b key P (messageOf m)) (messageFault m) (reported b (redact key P (messageOf m))) (message-judged m)
-    (unfold redact in run-judged (length (printMessage (messageOf m))) key P (messageOf m) b)))
+    buffers-judged (b .buffers) _ _
+    (policy-then p (λ r e. messageRow m e || withPolicyRow r λ P. runRow (length (printMessage (messageOf m))) (b .report) key P (messageOf m) e)
+    (λ P. withoutFault (messageFault m) (reported (b .report) (redact key P (messageOf m))))
+    (λ P q. fault-then (messageRow m) (runRow (length (printMessage (messageOf m))) (b .report) key P (messageOf m)) (messageFault m) (reported (b .report) (redact key P (messageOf m))) (message-judged m)
+    (unfold redact in run-judged (length (printMessage (messageOf m))) key P (messageOf m) (b .report))))
 
 print-judged : (b : Lent) (p : Text) → Judges (rowOfPrint b p) (refusalIn (printAnswer b p))
 unfolding rowOfPrint printAnswer
@@ -134,40 +134,32 @@ payload-judged b t p key =
 
 -- ---- "Success is 0, exactly when no row applies"
 
-pub record Exactly (row : Refusal → Bool) (n : ℕ) : Type 0 where
-  -- an input to which no row applies gets 0
-  pub accepts : ((e : Refusal) → row e ≡ false) → n ≡ 0
-  -- to an input that gets 0 no row applies
-  pub no-row : n ≡ 0 → (e : Refusal) → row e ≡ false
-  -- the row of a refusal applies
-  pub row-applies : (n ≡ 0 → ⊥) → (e : Refusal) × (n ≡ number e) × (row e ≡ true)
-
-exactly : (row : Refusal → Bool) (b : Lent) (a : Answer) → Judges row (refusalIn a) → Exactly row (outcome b a .number)
-unfolding refusalIn outcome
-exactly row b (done t ρs) h = record { accepts = λ k. refl; no-row = λ k. h; row-applies = λ k. absurd (k refl) }
-exactly row b (refused e n) h =
+exactly : {X : Type 0} (row : Refusal → Bool) (a : Answer X) → Judges row (refusalIn a) → Exactly row (numberOf a)
+unfolding refusalIn
+exactly row (done x) h = record { accepts = λ k. refl; no-row = λ k. h; row-applies = λ k. absurd (k refl) }
+exactly row (refused e n) h =
     record {
       accepts = λ k. clash (sym h ∙ k e);
       no-row = λ k. absurd (number-positive e k);
       row-applies = λ k. (e, refl, h);
     }
 
-pub redact-exactly : (b : Lent) (message policy : Text) (key : ℕ) → Exactly (rowOfRedact b message policy key) (redactOutcome b message policy key .number)
-unfolding redactOutcome
-redact-exactly b m p key = exactly _ b (redactAnswer b m p key) (redact-judged b m p key)
+pub redact-exactly : (b : LentReport) (message policy : Text) (key : ℕ) → Exactly (rowOfRedact b message policy key) (redactOutcome b message policy key .number)
+unfolding redactOutcome outcomeWithReport
+redact-exactly b m p key = exactly _ (redactAnswer b m p key) (redact-judged b m p key)
 
 pub print-exactly : (b : Lent) (policy : Text) → Exactly (rowOfPrint b policy) (printOutcome b policy .number)
-unfolding printOutcome
-print-exactly b p = exactly _ b (printAnswer b p) (print-judged b p)
+unfolding printOutcome outcome
+print-exactly b p = exactly _ (printAnswer b p) (print-judged b p)
 
 pub append-exactly : (b : Lent) (first second : Text) → Exactly (rowOfAppend b first second) (appendOutcome b first second .number)
-unfolding appendOutcome
-append-exactly b p q = exactly _ b (appendAnswer b p q) (append-judged b p q)
+unfolding appendOutcome outcome
+append-exactly b p q = exactly _ (appendAnswer b p q) (append-judged b p q)
 
 pub builtin-exactly : (b : Lent) (n : ℕ) → Exactly (rowOfBuiltin b n) (builtinOutcome b n .number)
-unfolding builtinOutcome
-builtin-exactly b n = exactly _ b (builtinAnswer b n) (builtin-judged b n)
+unfolding builtinOutcome outcome
+builtin-exactly b n = exactly _ (builtinAnswer b n) (builtin-judged b n)
 
 pub payload-exactly : (b : Lent) (payload policy : Text) (key : ℕ) → Exactly (rowOfPayload b payload policy) (payloadOutcome b payload policy key .number)
-unfolding payloadOutcome
-payload-exactly b t p key = exactly _ b (payloadAnswer b t p key) (payload-judged b t p key)
+unfolding payloadOutcome outcome
+payload-exactly b t p key = exactly _ (payloadAnswer b t p key) (payload-judged b t p key)

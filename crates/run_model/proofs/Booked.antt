@@ -19,7 +19,7 @@ use Rattle.message_model.specs.Message.{Segment, Message, printSegments}
 use Rattle.policy_model.specs.Policy.{Policy}
 use Rattle.run_model.specs.Redact as R
 use Rattle.run_model.specs.Redact.{Row, Event, learn, change, Known, Book, running, stopped, knows, knownBytes, booked, bookAll, knownIn, segmentsEvents, unnamedEvents, overSegments, unnamedLeaf, forSweep, beforeSweep, eventsBeforeSweep, bookBeforeSweep, redactedAs, swept, redactFrom, printRows}
-use Rattle.run_model.specs.Entries.{Answer, done, refused, Lent, reported}
+use Rattle.run_model.specs.Entries.{Answer, done, refused, Redaction, reported}
 use Rattle.run_model.specs.Table.{is, learntFrom, rowsOf, overflows, learntIn, eventsOf, exceeds, runRow}
 use Rattle.run_model.specs.Counts.{textAfter, RunIs}
 use Rattle.run_model.proofs.Learning.{AllKnown, known-snoc, Learns, learns-segs}
@@ -178,8 +178,8 @@ book-append sweep (e ∷ a) b B = book-append sweep a b (booked sweep B e)
 
 -- ---- a run
 
-unfoldable pub refusalIn : Answer → Option Refusal
-refusalIn (done t ρs) = none
+unfoldable pub refusalIn : {X : Type 0} → Answer X → Option Refusal
+refusalIn (done x) = none
 refusalIn (refused e n) = some e
 
 module _ (z : ℕ) (key : ℕ) (P : Policy) (m : Message) where
@@ -203,12 +203,12 @@ module _ (z : ℕ) (key : ℕ) (P : Policy) (m : Message) where
   abbrev FinishedIs : Book → Type 0
   FinishedIs B = BookIs (learntIn key P m) (rowsOf (eventsOf key P m)) (overflows z (eventsOf key P m)) B
 
-  finished : (b : Lent) (B : Book) → FinishedIs B → (ss : List Segment) → Judges (runRow z b key P m) (refusalIn (reported b (redactedAs s (m .lastCR) B ss)))
+  finished : (b : ℕ) (B : Book) → FinishedIs B → (ss : List Segment) → Judges (runRow z b key P m) (refusalIn (reported b (redactedAs s (m .lastCR) B ss)))
   unfolding redactedAs reported
-  finished b (running ls σs y) h ss = rw (h .1) (go (ltb (b .report) (length (printRows (rowsOf (eventsOf key P m))))) refl)
+  finished b (running ls σs y) h ss = rw (h .1) (go (ltb b (length (printRows (rowsOf (eventsOf key P m))))) refl)
     where
-      go : (c : Bool) → ltb (b .report) (length (printRows (rowsOf (eventsOf key P m)))) ≡ c
-          → Judges (runRow z b key P m) (refusalIn (cond c (refused ReportTooLong 0) (done (printSegments s (m .lastCR) ss) (rowsOf (eventsOf key P m)))))
+      go : (c : Bool) → ltb b (length (printRows (rowsOf (eventsOf key P m)))) ≡ c
+          → Judges (runRow z b key P m) (refusalIn {X = Redaction} (cond c (refused ReportTooLong 0) (done (record { text = printSegments s (m .lastCR) ss; rows = rowsOf (eventsOf key P m) }))))
       go true e = unfold refusalIn runRow is number in rw e
       go false e = unfold refusalIn runRow in λ x. or-false (or-false (and-none (is x TooMuchLearnt) (h .2)) (and-none (is x MessageTooLong) (h .3))) (and-none (is x ReportTooLong) e)
   finished b (stopped e) (inl (q, x)) ss = unfold refusalIn runRow in rw q (unfold is number in rw x)
@@ -235,7 +235,7 @@ module _ (z : ℕ) (key : ℕ) (P : Policy) (m : Message) where
   ended-is : FinishedIs (bookAll (P .sweep) (sweeping (knownIn started)) started)
   ended-is = from-book started refl (book-is (P .sweep) before [] [] _ (unfold exceeds knownBytes in refl))
 
-  pub run-judged : (b : Lent) → Judges (runRow z b key P m) (refusalIn (reported b (redactFrom z key P m)))
+  pub run-judged : (b : ℕ) → Judges (runRow z b key P m) (refusalIn (reported b (redactFrom z key P m)))
   unfolding redactFrom swept bookBeforeSweep
   run-judged b = finished b _ ended-is (overSegments (unnamedLeaf key s (forSweep s (knownIn started))) (beforeSweep key s P (m .segments)))
 

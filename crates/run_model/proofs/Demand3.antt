@@ -14,7 +14,7 @@ use Rattle.message_model.proofs.Delimiters.{separators-same}
 use Rattle.message_model.proofs.Messages.{headerLabel, delimiterLeaves, HeaderFirst, leaves-of-header}
 use Rattle.run_model.specs.Redact as R
 use Rattle.run_model.specs.Redact.{Row, covers, printRows}
-use Rattle.run_model.specs.Entries.{done, Lent, Outcome, filled, outcome, redactOutcome}
+use Rattle.run_model.specs.Entries.{done, LentReport, RedactOutcome, filled, outcomeWithReport, redactOutcome}
 use Rattle.run_model.specs.Demand.{covered, AlikeLeaves, AlikeSegments, Alike, Demand3}
 use Rattle.run_model.proofs.TwoMessages.{two-messages}
 use Rattle.run_model.proofs.Accepted.{is-done}
@@ -47,22 +47,22 @@ same-separators rs a b f g h =
 
 -- ---- the buffers' fronts
 
-filled-front : (t : Text) (n : ℕ) → take (length t) (filled t n) ≡ t
+pub filled-front : (t : Text) (n : ℕ) → take (length t) (filled t n) ≡ t
 unfolding filled
 filled-front t n = take-at t _ (length t) refl
 
 -- what a success shows
-module _ (b : Lent) (t : Text) (ρs : List Row) (o : Outcome) (e : o ≡ outcome b (done t ρs)) where
+module _ (b : LentReport) (t : Text) (ρs : List Row) (o : RedactOutcome) (e : o ≡ outcomeWithReport b (done (record { text = t; rows = ρs }))) where
   shows-rows : o .rows ≡ length ρs
-  unfolding outcome
+  unfolding outcomeWithReport
   shows-rows = rw e
 
   shows-text : take (o .textLength) (o .output) ≡ t
-  unfolding outcome
-  shows-text = rw (e, filled-front t (b .output))
+  unfolding outcomeWithReport
+  shows-text = rw (e, filled-front t (b .buffers .output))
 
   shows-report : take (o .reportLength) (o .report) ≡ printRows ρs
-  unfolding outcome
+  unfolding outcomeWithReport
   shows-report = rw (e, filled-front (printRows ρs) (b .report))
 
 done-text : (t u : Text) (ρs σs : List Row) → R.done t ρs ≡ R.done u σs → (t ≡ u) × (ρs ≡ σs)
@@ -76,8 +76,8 @@ demand3 policy key P m n b c h settled unswept =
     let e = two-messages key P (messageOf m) (messageOf n) (same-separators (P .rules) (messageOf m) (messageOf n) (leaves-of-header m (f .no-fault)) (leaves-of-header n (g .no-fault)) (h .alike))
     (h .alike) settled unswept (f .text, f .rows, f .run) (g .text, g .rows, g .run) in
     let d = done-text (f .text) (g .text) (f .rows) (g .rows) (sym (f .run) ∙ e ∙ g .run) in
-    let o = ap (outcome b) (f .answer) in
-    let q = ap (outcome c) (g .answer) in
+    let o = ap (outcomeWithReport b) (f .answer) in
+    let q = ap (outcomeWithReport c) (g .answer) in
     record {
       rows = shows-rows b (f .text) (f .rows) _ o ∙ ap length (d .1) ∙ sym (shows-rows c (g .text) (g .rows) _ q);
       text = shows-text b (f .text) (f .rows) _ o ∙ d .0 ∙ sym (shows-text c (g .text) (g .rows) _ q);

@@ -1,5 +1,6 @@
--- Demand 3's premises can be met, with the sweep on and two different messages; and without either of the two provisos two calls may
--- differ. Assumes nothing.
+-- Demand 3's premises can be met, with the sweep on and two different messages: where a rule changes the one leaf that differs, where
+-- it is kept before it collapses, and where leaves vanish that a later rule still covers. And without either of the two provisos two
+-- calls may differ. Assumes nothing.
 use mathlib.Core.Path.{_≡_, refl, subst}
 use mathlib.Core.Logic.{inl, inr, ⊎-elim}
 use mathlib.Core.Bool.{true, false}
@@ -10,32 +11,35 @@ use native.Mathlib.Omega.{arith}
 use lib.Dec.{T}
 use Rattle.text.specs.Text.{Text, bytes, same}
 use Rattle.er7_redact.specs.Action as A
-use Rattle.er7_redact.specs.Action.{Action, clear, mask}
-use Rattle.er7_redact.specs.Policy.{Rule, accept}
+use Rattle.er7_redact.specs.Action.{Action, keep, clear, null, mask}
+use Rattle.er7_redact.specs.Policy.{Rule, accept, reject}
 use Rattle.er7.specs.declared.message.Place.{Place}
 use Rattle.message_model.specs.Message.{Leaf, leaf, Label, segment, messageOf}
 use Rattle.policy_model.specs.Policy.{Policy, refuse}
 use Rattle.run_model.specs.Redact.{Row, learn, change, beforeSweep}
-use Rattle.run_model.specs.Entries.{Lent, redactOutcome}
+use Rattle.run_model.specs.Entries.{LentReport, redactOutcome}
 use Rattle.run_model.specs.Demand.{NothingToSweep, NotInSegments, AlikeLeaves, AlikeSegments, TwoCalls, Settled, Unswept, SameResult}
 use Rattle.run_model.proofs.Computes.{computes}
 
-abbrev lent : ℕ → Lent
-lent n = record { output = 49152; report = n; scratch = 49152 }
+abbrev lent : ℕ → LentReport
+lent n = record { buffers = record { output = 49152; scratch = 49152 }; report = n }
 
 abbrev firstField : Action → Rule
 firstField a = record { path = record { segment = bytes "PID"; occurrence = 0; field = 1; repetition = 0; component = 0; subcomponent = 0 }; action = a }
 
--- two segments with two leaves each: what holds where there is nothing to show but at the third
-only-third : (D S : ℕ → ℕ → Type 0) → S 1 0 → (D 0 0 → ⊥) → (D 0 1 → ⊥) → ((j : ℕ) → D 0 (suc (suc j)) → ⊥) → (D 1 1 → ⊥)
+abbrev secondComponent : Rule
+secondComponent = record { path = record { segment = bytes "PID"; occurrence = 0; field = 1; repetition = 0; component = 2; subcomponent = 0 }; action = mask 0x2a }
+
+-- two segments with two leaves each: what holds where there is nothing to show in the first
+only-behind : (D S : ℕ → ℕ → Type 0) → (D 1 0 → S 1 0) → (D 1 1 → S 1 1) → (D 0 0 → ⊥) → (D 0 1 → ⊥) → ((j : ℕ) → D 0 (suc (suc j)) → ⊥)
     → ((j : ℕ) → D 1 (suc (suc j)) → ⊥) → ((i j : ℕ) → D (suc (suc i)) j → ⊥) → (i j : ℕ) → D i j → S i j
-only-third D S h a b c d e f zero zero x = absurd (a x)
-only-third D S h a b c d e f zero (suc zero) x = absurd (b x)
-only-third D S h a b c d e f zero (suc (suc j)) x = absurd (c j x)
-only-third D S h a b c d e f (suc zero) zero x = h
-only-third D S h a b c d e f (suc zero) (suc zero) x = absurd (d x)
-only-third D S h a b c d e f (suc zero) (suc (suc j)) x = absurd (e j x)
-only-third D S h a b c d e f (suc (suc i)) j x = absurd (f i j x)
+only-behind D S h k a b c e f zero zero x = absurd (a x)
+only-behind D S h k a b c e f zero (suc zero) x = absurd (b x)
+only-behind D S h k a b c e f zero (suc (suc j)) x = absurd (c j x)
+only-behind D S h k a b c e f (suc zero) zero x = h x
+only-behind D S h k a b c e f (suc zero) (suc zero) x = k x
+only-behind D S h k a b c e f (suc zero) (suc (suc j)) x = absurd (e j x)
+only-behind D S h k a b c e f (suc (suc i)) j x = absurd (f i j x)
 
 abbrev Is : Text → Option Text → Type 0
 Is t none = ⊥
@@ -80,8 +84,8 @@ calls =
 settled : Settled 0 P (messageOf first) (messageOf second)
 unfolding computes
 settled =
-    only-third _ _ (inl (λ e. subst (Is (bytes "abc")) e tt), inl (λ e. subst (Is (bytes "xyz")) e tt), refl)
-    (λ d. d refl) (λ d. d refl) (λ j d. d refl) (λ d. d refl) (λ j d. d refl) (λ i j d. d refl)
+    only-behind _ _ (λ d. (inl (λ e. subst (Is (bytes "abc")) e tt), inl (λ e. subst (Is (bytes "xyz")) e tt), refl)) (λ d. absurd (d refl))
+    (λ d. d refl) (λ d. d refl) (λ j d. d refl) (λ j d. d refl) (λ i j d. d refl)
 
 no-change : (v : Text) (a : Action) (ρ : Row) (m n : ℕ) → List·Memᴰ (learn v a) (change ρ m n ∷ []) → ⊥
 no-change v a ρ m n h = ⊎-elim (λ e. let z : _≡_ {A = ℕ} 0 1 = cc in omega arith) List·Memᴰ·not-nil (List·Memᴰ·cases-cons h)
@@ -110,6 +114,69 @@ pub premises-met :
     × Unswept 0 P (messageOf first) (messageOf second) × (first ≡ second → ⊥)
 unfolding computes
 premises-met = (calls, settled, inr (quiet-first, quiet-second), λ e. absurd (subst (λ (t : Text). T (same first t)) e tt))
+
+-- ---- an instance: `""^x` and `a^x`, kept and then collapsed. Keep is passed by, and the null that was there counts as changed
+
+abbrev collapses : Text
+collapses = bytes "PID-1 keep\nPID-1 null\nreject mask"
+
+abbrev K : Policy
+K = record { rules = firstField keep ∷ firstField null ∷ []; posture = reject (mask 0x2a); unrecognised = refuse; sweep = true }
+
+abbrev nulled : Text
+nulled = bytes "MSH|^~\\&\rPID|\"\"^x"
+
+abbrev full : Text
+full = bytes "MSH|^~\\&\rPID|a^x"
+
+pub keep-passed :
+    TwoCalls collapses 0 K nulled full (lent 65536) (lent 65536) × Settled 0 K (messageOf nulled) (messageOf full)
+    × Unswept 0 K (messageOf nulled) (messageOf full) × (nulled ≡ full → ⊥)
+unfolding computes
+keep-passed = (
+  record {
+    policy-reads = refl;
+    first-accepted = refl;
+    second-accepted = refl;
+    alike = record {
+      lastCR = refl;
+      segments = behind-header _ _ _ _ _ _ _ _ _ (AlikeLeaves.next _ _ _ (λ h. absurd h) (AlikeLeaves.next _ _ _ (λ h. absurd h) AlikeLeaves.end));
+    };
+  },
+  only-behind _ _ (λ d. (inr tt, inr tt, refl)) (λ d. absurd (d refl)) (λ d. d refl) (λ d. d refl) (λ j d. d refl) (λ j d. d refl) (λ i j d. d refl),
+  inr ((λ v l. absurd (no-change v (l .0) _ _ _ (l .1))), (λ v l. absurd (no-change v (l .0) _ _ _ (l .1)))),
+  λ e. absurd (subst (λ (t : Text). T (same nulled t)) e tt),
+)
+
+-- ---- an instance: both leaves of `a^x` and `b^y` vanish in a collapse, and a later rule covers the second
+
+abbrev vanishes : Text
+vanishes = bytes "PID-1 null\nPID-1.2 mask"
+
+abbrev C : Policy
+C = record { rules = firstField null ∷ secondComponent ∷ []; posture = accept; unrecognised = refuse; sweep = true }
+
+abbrev other : Text
+other = bytes "MSH|^~\\&\rPID|b^y"
+
+pub vanished-covered :
+    TwoCalls vanishes 0 C full other (lent 65536) (lent 65536) × Settled 0 C (messageOf full) (messageOf other)
+    × Unswept 0 C (messageOf full) (messageOf other) × (full ≡ other → ⊥)
+unfolding computes
+vanished-covered = (
+  record {
+    policy-reads = refl;
+    first-accepted = refl;
+    second-accepted = refl;
+    alike = record {
+      lastCR = refl;
+      segments = behind-header _ _ _ _ _ _ _ _ _ (AlikeLeaves.next _ _ _ (λ h. absurd h) (AlikeLeaves.next _ _ _ (λ h. absurd h) AlikeLeaves.end));
+    };
+  },
+  only-behind _ _ (λ d. (inr tt, inr tt, refl)) (λ d. (inr tt, inr tt, refl)) (λ d. d refl) (λ d. d refl) (λ j d. d refl) (λ j d. d refl) (λ i j d. d refl),
+  inr ((λ v l. absurd (no-change v (l .0) _ _ _ (l .1))), (λ v l. absurd (no-change v (l .0) _ _ _ (l .1)))),
+  λ e. absurd (subst (λ (t : Text). T (same full t)) e tt),
+)
 
 -- ---- why the first covering action must settle: under two rules abc changes once and abcd twice, though the second rule leaves the same text
 
@@ -165,7 +232,7 @@ unswept-needed = (
       segments = behind-header _ _ _ _ _ _ _ _ _ (AlikeLeaves.next _ _ _ (λ h. absurd h) (AlikeLeaves.next _ _ _ (λ h. refl) AlikeLeaves.end));
     };
   },
-  only-third _ _ (inl (λ e. subst (Is (bytes "abc")) e tt), inl (λ e. subst (Is (bytes "xyz")) e tt), refl)
-      (λ d. d refl) (λ d. d refl) (λ j d. d refl) (λ d. d refl) (λ j d. d refl) (λ i j d. d refl),
+  only-behind _ _ (λ d. (inl (λ e. subst (Is (bytes "abc")) e tt), inl (λ e. subst (Is (bytes "xyz")) e tt), refl)) (λ d. absurd (d refl))
+      (λ d. d refl) (λ d. d refl) (λ j d. d refl) (λ j d. d refl) (λ i j d. d refl),
   λ h. let e : _≡_ {A = ℕ} 2 1 = h .rows in omega arith,
 )

@@ -11,3 +11,4 @@ pub mod Acceptance
 pub mod Chains
 pub mod Sizes
 pub mod Units
+pub mod ReadBack

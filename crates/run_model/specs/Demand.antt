@@ -16,7 +16,7 @@ use Rattle.message_model.specs.Message.{Leaf, leaf, Label, Segment, segment, Me
 use Rattle.message_model.specs.Value.{value, isWholeWord}
 use Rattle.policy_model.specs.Policy.{Policy, read, readPolicy}
 use Rattle.run_model.specs.Redact.{covers, reach, isNode, fate, moved, isUnnamed, learn, afterRule, rulesEvents, beforeSweep}
-use Rattle.run_model.specs.Entries.{Lent, Outcome, redactOutcome}
+use Rattle.run_model.specs.Entries.{LentReport, RedactOutcome, redactOutcome}
 
 -- ---- positions: a segment's number and a leaf's number in it, from 0. A leaf that vanished keeps its number
 
@@ -119,7 +119,7 @@ pub record Alike (rs : List Rule) (a b : Message) : Type 0 where
 
 -- "redact with any one policy and key on any two accepted messages that are alike in all but covered leaves": the policy P reads from
 -- one text, the buffers have any lengths. "A message is accepted if its answer is 0"
-pub record TwoCalls (policy : Text) (key : ℕ) (P : Policy) (m n : Text) (b c : Lent) : Type 0 where
+pub record TwoCalls (policy : Text) (key : ℕ) (P : Policy) (m n : Text) (b c : LentReport) : Type 0 where
   pub policy-reads : readPolicy policy ≡ read P
   pub first-accepted : redactOutcome b m policy key .number ≡ 0
   pub second-accepted : redactOutcome c n policy key .number ≡ 0
@@ -136,13 +136,13 @@ abbrev pub Unswept : ℕ → Policy → Message → Message → Type 0
 Unswept key P a b = T (not (P .sweep)) ⊎ (NothingToSweep key P a × NothingToSweep key P b)
 
 -- "Text and report are what output and report hold up to their lengths; the number of rows is the one returned"
-pub record SameResult (o q : Outcome) : Type 0 where
+pub record SameResult (o q : RedactOutcome) : Type 0 where
   pub rows : o .rows ≡ q .rows
   pub text : take (o .textLength) (o .output) ≡ take (q .textLength) (q .output)
   pub report : take (o .reportLength) (o .report) ≡ take (q .reportLength) (q .report)
 
 abbrev pub Demand3 : Type 0
 Demand3 =
-    (policy : Text) (key : ℕ) (P : Policy) (m n : Text) (b c : Lent) → TwoCalls policy key P m n b c
+    (policy : Text) (key : ℕ) (P : Policy) (m n : Text) (b c : LentReport) → TwoCalls policy key P m n b c
     → Settled key P (messageOf m) (messageOf n) → Unswept key P (messageOf m) (messageOf n)
     → SameResult (redactOutcome b m policy key) (redactOutcome c n policy key)

@@ -4,7 +4,7 @@ use mathlib.Core.Bool.{Bool, not, cond, _||_}
 use mathlib.Core.List.{List, [], _++_}
 use mathlib.Core.Option.{Option, none, some}
 use Prim.Native.Nat.{ℕ, _+_, _-_}
-use lib.ListN.{length, replicate}
+use lib.ListN.{length, take, replicate}
 use lib.Dec.{eqb, ltb}
 use Rattle.text.specs.Text.{Text, all}
 use Rattle.er7_redact.specs.Action as A
@@ -20,19 +20,35 @@ use Rattle.run_model.specs.Redact.{Row, Redacted, redact, printRows}
 
 -- ---- answers and outcomes
 
--- a text with its rows, or a refusal with its line
-pub data Answer : Type 0 where
-  done : Text → List Row → Answer
-  refused : Refusal → ℕ → Answer
+-- what a call has to give, or a refusal with its line
+pub data Answer (X : Type 0) : Type 0 where
+  done : X → Answer X
+  refused : Refusal → ℕ → Answer X
 
--- the lengths of the lent buffers; an entry that is lent no report has 0 there
+-- a redacted text and its rows
+pub record Redaction : Type 0 where
+  pub text : Text
+  pub rows : List Row
+
+-- the lengths of the lent output and scratch; redact is lent a report too
 pub record Lent : Type 0 where
   pub output : ℕ
-  pub report : ℕ
   pub scratch : ℕ
 
--- what a call hands back
+pub record LentReport : Type 0 where
+  pub buffers : Lent
+  pub report : ℕ
+
+-- what a call of print, append, built-in or payload hands back
 pub record Outcome : Type 0 where
+  pub number : ℕ
+  pub line : ℕ
+  pub textLength : ℕ
+  pub output : Text
+  pub scratch : Text
+
+-- .. and one of redact
+pub record RedactOutcome : Type 0 where
   pub number : ℕ
   pub line : ℕ
   pub textLength : ℕ
@@ -46,31 +62,47 @@ pub record Outcome : Type 0 where
 unfoldable pub filled : Text → ℕ → Text
 filled t n = t ++ replicate (n - length t) 0
 
+-- the number and the line of an answer; "Success is 0"
+abbrev pub numberOf : {X : Type 0} → Answer X → ℕ
+numberOf (done x) = 0
+numberOf (refused e n) = number e
+
+abbrev pub lineOf : {X : Type 0} → Answer X → ℕ
+lineOf (done x) = 0
+lineOf (refused e n) = n
+
+-- a refusal gives no text and no rows
+abbrev pub textOf : Answer Text → Text
+textOf (done t) = t
+textOf (refused e n) = []
+
+abbrev pub redactionOf : Answer Redaction → Redaction
+redactionOf (done d) = d
+redactionOf (refused e n) = record { text = []; rows = [] }
+
 -- "Success zeroes the scratch and the bytes behind text and report"; "Any refusal zeroes output, report and scratch whole, with
 -- lengths and rows 0"
-unfoldable pub outcome : Lent → Answer → Outcome
-outcome b (done t ρs) =
+unfoldable pub outcome : Lent → Answer Text → Outcome
+outcome b a =
+    record { number = numberOf a; line = lineOf a; textLength = length (textOf a); output = filled (textOf a) (b .output); scratch = filled [] (b .scratch) }
+
+unfoldable pub outcomeWithReport : LentReport → Answer Redaction → RedactOutcome
+outcomeWithReport b a =
+    let d = redactionOf a in
     record {
-      number = 0;
-      line = 0;
-      textLength = length t;
-      reportLength = length (printRows ρs);
-      rows = length ρs;
-      output = filled t (b .output);
-      report = filled (printRows ρs) (b .report);
-      scratch = filled [] (b .scratch);
+      number = numberOf a;
+      line = lineOf a;
+      textLength = length (d .text);
+      reportLength = length (printRows (d .rows));
+      rows = length (d .rows);
+      output = filled (d .text) (b .buffers .output);
+      report = filled (printRows (d .rows)) (b .report);
+      scratch = filled [] (b .buffers .scratch);
     }
-outcome b (refused e n) =
-    record {
-      number = number e;
-      line = n;
-      textLength = 0;
-      reportLength = 0;
-      rows = 0;
-      output = filled [] (b .output);
-      report = filled [] (b .report);
-      scratch = filled [] (b .scratch);
-    }
+
+-- "Text and report are what output and report hold up to their lengths"
+abbrev pub textLeft : Outcome → Text
+textLeft o = take (o .textLength) (o .output)
 
 -- ---- what every entry judges first, and the parts of an order
 
@@ -78,48 +110,48 @@ outcome b (refused e n) =
 unfoldable pub isShort : Lent → Bool
 isShort b = ltb (b .output) 49152 || ltb (b .scratch) 49152
 
-unfoldable pub withBuffers : Lent → Answer → Answer
+unfoldable pub withBuffers : {X : Type 0} → Lent → Answer X → Answer X
 withBuffers b a = cond (isShort b) (refused ShortBuffer 0) a
 
 -- a policy's refusal comes with its line
-unfoldable pub withPolicy : PolicyRead → (Policy → Answer) → Answer
+unfoldable pub withPolicy : {X : Type 0} → PolicyRead → (Policy → Answer X) → Answer X
 withPolicy (read P) f = f P
 withPolicy (Q.refused e n) f = refused e n
 
-unfoldable pub withoutFault : Option Refusal → Answer → Answer
+unfoldable pub withoutFault : {X : Type 0} → Option Refusal → Answer X → Answer X
 withoutFault none a = a
 withoutFault (some e) a = refused e 0
 
 -- ---- redact
 
 -- "report longer than its buffer": "12 last"
-unfoldable pub reported : Lent → Redacted → Answer
-reported b (R.done t ρs) = cond (ltb (b .report) (length (printRows ρs))) (refused ReportTooLong 0) (done t ρs)
-reported b (R.refused e) = refused e 0
+unfoldable pub reported : ℕ → Redacted → Answer Redaction
+reported n (R.done t ρs) = cond (ltb n (length (printRows ρs))) (refused ReportTooLong 0) (done (record { text = t; rows = ρs }))
+reported n (R.refused e) = refused e 0
 
-unfoldable pub redactAnswer : Lent → Text → Text → ℕ → Answer
+unfoldable pub redactAnswer : LentReport → Text → Text → ℕ → Answer Redaction
 redactAnswer b message policy key =
-    withBuffers b
-    (withPolicy (readPolicy policy) λ P. withoutFault (messageFault message) (reported b (redact key P (messageOf message))))
+    withBuffers (b .buffers)
+    (withPolicy (readPolicy policy) λ P. withoutFault (messageFault message) (reported (b .report) (redact key P (messageOf message))))
 
 -- ---- print, append and built-in: "write the printed form of the policy read, merged or named"
 
-unfoldable pub printed : Policy → Answer
-printed P = done (printPolicy P) []
+unfoldable pub printed : Policy → Answer Text
+printed P = done (printPolicy P)
 
-unfoldable pub printAnswer : Lent → Text → Answer
+unfoldable pub printAnswer : Lent → Text → Answer Text
 printAnswer b policy = withBuffers b (withPolicy (readPolicy policy) printed)
 
 -- "each policy whole ..; the merged rule count"
-unfoldable pub mergedAnswer : Policy → Policy → Answer
+unfoldable pub mergedAnswer : Policy → Policy → Answer Text
 mergedAnswer P Q = cond (ltb 128 (length (P .rules) + length (Q .rules))) (refused TooMany 0) (printed (merged P Q))
 
-unfoldable pub appendAnswer : Lent → Text → Text → Answer
+unfoldable pub appendAnswer : Lent → Text → Text → Answer Text
 appendAnswer b first second =
     withBuffers b (withPolicy (readPolicy first) λ P. withPolicy (readPolicy second) λ Q. mergedAnswer P Q)
 
 -- "number above 3"
-unfoldable pub builtinAnswer : Lent → ℕ → Answer
+unfoldable pub builtinAnswer : Lent → ℕ → Answer Text
 builtinAnswer b n = withBuffers b (cond (ltb 3 n) (refused NoSuchBuiltin 0) (withPolicy (readPolicy (builtinText n)) printed))
 
 -- ---- payload: "the payload (2, 3, 13)"
@@ -137,20 +169,20 @@ writtenOr t none = t
 writtenOr t (some w) = w
 
 -- "payload under refuse"
-unfoldable pub unrecognised : ℕ → Unrecognised → Text → Answer
-unrecognised key pass t = done t []
+unfoldable pub unrecognised : ℕ → Unrecognised → Text → Answer Text
+unrecognised key pass t = done t
 unrecognised key refuse t = refused Withheld 0
-unrecognised key (apply a) t = done (writtenOr t (A.apply key a t)) []
+unrecognised key (apply a) t = done (writtenOr t (A.apply key a t))
 
-unfoldable pub payloadAnswer : Lent → Text → Text → ℕ → Answer
+unfoldable pub payloadAnswer : Lent → Text → Text → ℕ → Answer Text
 payloadAnswer b payload policy key =
     withBuffers b
     (withPolicy (readPolicy policy) λ P. withoutFault (payloadFault payload) (unrecognised key (P .unrecognised) payload))
 
 -- ---- the outcomes of the five entries
 
-unfoldable pub redactOutcome : Lent → Text → Text → ℕ → Outcome
-redactOutcome b message policy key = outcome b (redactAnswer b message policy key)
+unfoldable pub redactOutcome : LentReport → Text → Text → ℕ → RedactOutcome
+redactOutcome b message policy key = outcomeWithReport b (redactAnswer b message policy key)
 
 unfoldable pub printOutcome : Lent → Text → Outcome
 printOutcome b policy = outcome b (printAnswer b policy)

@@ -1,5 +1,6 @@
 -- The table of refusals, row by row: which rows apply to a call, whatever their order. "Success is 0, exactly when no row applies".
 -- Assumes nothing: these are definitions.
+use mathlib.Core.Path.{_≡_}
 use mathlib.Core.Bool.{Bool, true, false, not, cond, _&&_, _||_}
 use mathlib.Core.List.{List, [], _∷_, _++_}
 use mathlib.Core.Option.{some}
@@ -15,7 +16,7 @@ use Rattle.message_model.specs.Message.{Message, messageOf, isMessageByte, segm
 use Rattle.policy_model.specs.Policy as Q
 use Rattle.policy_model.specs.Policy.{Policy, PolicyRead, read, readPolicy, Saying, nothing, rule, wrong, saysLine, policyLines, isPolicyText, Unrecognised, pass, refuse, apply}
 use Rattle.run_model.specs.Redact.{Row, Event, learn, change, Known, knows, knownBytes, segmentsEvents, unnamedEvents, forSweep, beforeSweep, eventsBeforeSweep, printRows}
-use Rattle.run_model.specs.Entries.{Lent, isShort, isPayloadByte}
+use Rattle.run_model.specs.Entries.{Lent, LentReport, isShort, isPayloadByte}
 
 unfoldable pub is : Refusal → Refusal → Bool
 is e x = eqb (number e) (number x)
@@ -119,19 +120,19 @@ exceeds ks = ltb 512 (length ks) || ltb 16384 (knownBytes ks)
 
 -- "sweep on, and .."; "a change leaves the message over 49,152 bytes"; "report longer than
 -- its buffer"
-unfoldable pub runRow : ℕ → Lent → ℕ → Policy → Message → Refusal → Bool
-runRow z b key P m e =
+unfoldable pub runRow : ℕ → ℕ → ℕ → Policy → Message → Refusal → Bool
+runRow z n key P m e =
     let ks = learntIn key P m in
     let es = eventsOf key P m in
     is e TooMuchLearnt && exceeds ks || is e MessageTooLong && overflows z es
-    || is e ReportTooLong && ltb (b .report) (length (printRows (rowsOf es)))
+    || is e ReportTooLong && ltb n (length (printRows (rowsOf es)))
 
 -- ---- the five entries
 
-unfoldable pub rowOfRedact : Lent → Text → Text → ℕ → Refusal → Bool
+unfoldable pub rowOfRedact : LentReport → Text → Text → ℕ → Refusal → Bool
 rowOfRedact b message policy key e =
-    bufferRow b e || (policyRow policy e || (messageRow message e
-    || withPolicyRow (readPolicy policy) λ P. runRow (length (printMessage (messageOf message))) b key P (messageOf message) e))
+    bufferRow (b .buffers) e || (policyRow policy e || (messageRow message e
+    || withPolicyRow (readPolicy policy) λ P. runRow (length (printMessage (messageOf message))) (b .report) key P (messageOf message) e))
 
 unfoldable pub rowOfPrint : Lent → Text → Refusal → Bool
 rowOfPrint b policy e = bufferRow b e || policyRow policy e
@@ -156,3 +157,13 @@ unfoldable pub rowOfPayload : Lent → Text → Text → Refusal → Bool
 rowOfPayload b payload policy e =
     bufferRow b e || (policyRow policy e || ((is e TooLong && tooLong payload || is e ForeignByte && not (all isPayloadByte payload))
     || withPolicyRow (readPolicy policy) λ P. is e Withheld && refuses (P .unrecognised)))
+
+-- ---- "Success is 0, exactly when no row applies": a call's number n, by the rows that apply to it
+
+pub record Exactly (row : Refusal → Bool) (n : ℕ) : Type 0 where
+  -- an input to which no row applies gets 0
+  pub accepts : ((e : Refusal) → row e ≡ false) → n ≡ 0
+  -- to an input that gets 0 no row applies
+  pub no-row : n ≡ 0 → (e : Refusal) → row e ≡ false
+  -- the row of a refusal applies
+  pub row-applies : (n ≡ 0 → ⊥) → (e : Refusal) × (n ≡ number e) × (row e ≡ true)

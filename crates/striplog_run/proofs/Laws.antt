@@ -8,15 +8,15 @@ use lib.ListN.{length, take, length-append, length-take, length-replicate}
 use Rattle.text.specs.Text.{Text, Wrote}
 use Rattle.text.proofs.Laws.{clash}
 use Rattle.run_model.specs.Redact.{printRows}
-use Rattle.run_model.specs.Entries.{Lent, Answer, done, refused, Outcome, filled, outcome, redactAnswer, redactOutcome}
+use Rattle.run_model.specs.Entries.{LentReport, Answer, Redaction, RedactOutcome, redactionOf, filled, outcomeWithReport, redactAnswer, redactOutcome}
 use Rattle.striplog_text.specs.declared.key.Key.{Key}
 use Rattle.striplog_text.specs.declared.key.Key.the-variants.{Nothing, Digits, Ended, Bad}
 use Rattle.striplog_text.specs.Striplog.{printed, printedOutcome, badInput, buffers, strippedWith}
 use Rattle.striplog_text.specs.Key.{keyOf}
 use Rattle.striplog_text.proofs.Lines.{printed-most}
 use Rattle.striplog_run.specs.Files.{fileIf}
-use Rattle.entries.specs.Handed.{asOutcome, lent}
-use Rattle.entries.specs.declared.handed.Handed.{Handed}
+use Rattle.entries.specs.Returned.{asRedactOutcome, lent, lentReport}
+use Rattle.entries.specs.declared.returned.ReturnedReport.{ReturnedReport}
 
 -- ---- what is printed
 
@@ -76,37 +76,35 @@ filled-most : (t : Text) (n : ℕ) → length (filled t n) ≡ n → length t �
 unfolding filled
 filled-most t n e = omega (arith, simp (length-append, length-replicate) at e)
 
-module _ (b : Lent) where
-  text-most : (a : Answer) → length (outcome b a .output) ≡ b .output → outcome b a .textLength ≤ b .output
-  unfolding outcome
-  text-most (done t ρs) e = filled-most t (b .output) e
-  text-most (refused x n) e = omega arith
+module _ (b : LentReport) (a : Answer Redaction) where
+  text-most : length (outcomeWithReport b a .output) ≡ b .buffers .output → outcomeWithReport b a .textLength ≤ b .buffers .output
+  unfolding outcomeWithReport
+  text-most e = filled-most (redactionOf a .text) (b .buffers .output) e
 
-  report-most : (a : Answer) → length (outcome b a .report) ≡ b .report → outcome b a .reportLength ≤ b .report
-  unfolding outcome
-  report-most (done t ρs) e = filled-most (printRows ρs) (b .report) e
-  report-most (refused x n) e = omega arith
+  report-most : length (outcomeWithReport b a .report) ≡ b .report → outcomeWithReport b a .reportLength ≤ b .report
+  unfolding outcomeWithReport
+  report-most e = filled-most (printRows (redactionOf a .rows)) (b .report) e
 
-module _ (h : Handed) (o r s m p : Text) (k : ℕ) (e : asOutcome h o r s ≡ redactOutcome (lent 49152 65536 49152) m p k) where
+module _ (h : ReturnedReport) (o r s m p : Text) (k : ℕ) (e : asRedactOutcome h o r s ≡ redactOutcome (lentReport 49152 65536 49152) m p k) where
   pub text-end : length o ≡ 49152 → h .«text_len» ≤ 49152
-  unfolding asOutcome redactOutcome lent
-  text-end l = rw (ap (λ (x : Outcome). x .textLength) e) (text-most (lent 49152 65536 49152) (redactAnswer (lent 49152 65536 49152) m p k) (sym (ap (λ (x : Outcome). length (x .output)) e) ∙ l))
+  unfolding asRedactOutcome redactOutcome lentReport lent
+  text-end l = rw (ap (λ (x : RedactOutcome). x .textLength) e) (text-most (lentReport 49152 65536 49152) (redactAnswer (lentReport 49152 65536 49152) m p k) (sym (ap (λ (x : RedactOutcome). length (x .output)) e) ∙ l))
 
   pub report-end : length r ≡ 65536 → h .«report_len» ≤ 65536
-  unfolding asOutcome redactOutcome lent
-  report-end l = rw (ap (λ (x : Outcome). x .reportLength) e) (report-most (lent 49152 65536 49152) (redactAnswer (lent 49152 65536 49152) m p k) (sym (ap (λ (x : Outcome). length (x .report)) e) ∙ l))
+  unfolding asRedactOutcome redactOutcome lentReport lent
+  report-end l = rw (ap (λ (x : RedactOutcome). x .reportLength) e) (report-most (lentReport 49152 65536 49152) (redactAnswer (lentReport 49152 65536 49152) m p k) (sym (ap (λ (x : RedactOutcome). length (x .report)) e) ∙ l))
 
-  pub handed-prints : printed (h .number) (h .line) (take (h .«text_len» - 0) o) (take (h .«report_len» - 0) r) (h .rows) ≡ printedOutcome (redactOutcome buffers m p k)
-  unfolding asOutcome lent buffers printedOutcome
-  handed-prints =
+  pub returned-prints : printed (h .number) (h .line) (take (h .«text_len» - 0) o) (take (h .«report_len» - 0) r) (h .rows) ≡ printedOutcome (redactOutcome buffers m p k)
+  unfolding asRedactOutcome lentReport lent buffers printedOutcome
+  returned-prints =
       let t : h .«text_len» - 0 ≡ h .«text_len» = omega arith in
       let n : h .«report_len» - 0 ≡ h .«report_len» = omega arith in
       rw (t, n) (ap printedOutcome e)
 
 -- and there is room for what is printed of it
-pub handed-room : (h : Handed) (o r : Text) (n : ℕ) → h .number < 2 ^ 64 → h .line < 2 ^ 64 → h .rows < 2 ^ 64 → length o ≡ 49152 → length r ≡ 65536 → 114714 ≤ n
+pub returned-room : (h : ReturnedReport) (o r : Text) (n : ℕ) → h .number < 2 ^ 64 → h .line < 2 ^ 64 → h .rows < 2 ^ 64 → length o ≡ 49152 → length r ≡ 65536 → 114714 ≤ n
     → length (printed (h .number) (h .line) (take (h .«text_len» - 0) o) (take (h .«report_len» - 0) r) (h .rows)) ≤ n
-handed-room h o r n hn hl hr lo lr k =
+returned-room h o r n hn hl hr lo lr k =
     let a : length (take (h .«text_len» - 0) o) ≤ 49152 = simp length-take (omega arith) in
     let b : length (take (h .«report_len» - 0) r) ≤ 65536 = simp length-take (omega arith) in
     omega (arith, printed-most (h .number) (h .line) (h .rows) (take (h .«text_len» - 0) o) (take (h .«report_len» - 0) r) hn hl hr a b)

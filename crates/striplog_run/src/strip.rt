@@ -19,15 +19,15 @@ fn put_redacted(message: &[u8], policy: &[u8], key: u64, out: &mut [u8]) -> usiz
     let mut output = [0u8; 49152];
     let mut report = [0u8; 65536];
     let mut scratch = [0u8; 49152];
-    let handed = redact(message, policy, key, &mut output, &mut report, &mut scratch);
-    let text_end = handed.text_len as usize;
-    let report_end = handed.report_len as usize;
+    let returned = redact(message, policy, key, &mut output, &mut report, &mut scratch);
+    let text_end = returned.text_len as usize;
+    let report_end = returned.report_len as usize;
     put_outcome(
-        handed.number,
-        handed.line,
+        returned.number,
+        returned.line,
         &output[0..text_end],
         &report[0..report_end],
-        handed.rows,
+        returned.rows,
         out,
     )
 }

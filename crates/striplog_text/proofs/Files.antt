@@ -14,7 +14,7 @@ use Rattle.refusal.specs.declared.Refusal.the-variants.{TooLong}
 use Rattle.refusal.specs.Refusal.{tooLong}
 use Rattle.message_model.specs.Message.{messageFault}
 use Rattle.policy_model.specs.Policy.{readPolicy, refused}
-use Rattle.run_model.specs.Entries.{Lent, withoutFault, redactAnswer, redactOutcome}
+use Rattle.run_model.specs.Entries.{LentReport, withoutFault, redactAnswer, redactOutcome}
 use Rattle.striplog_text.specs.declared.key.Key.the-variants.{Nothing, Bad}
 use Rattle.striplog_text.specs.Striplog.{strippedWith, keyIn, stripped}
 use Rattle.striplog_text.specs.Key.{fedAll, keyOf}
@@ -38,7 +38,7 @@ long-policy t h = rw h
 policy-cut : (p : Text) → readPolicy (take 32769 p) ≡ readPolicy p
 policy-cut p = whole-or-long p (ap readPolicy) (λ h k. long-policy (take 32769 p) h ∙ sym (long-policy p k))
 
-module _ (b : Lent) (m p : Text) (k : ℕ) where
+module _ (b : LentReport) (m p : Text) (k : ℕ) where
   answer-cut : redactAnswer b (take 32769 m) (take 32769 p) k ≡ redactAnswer b m p k
   unfolding redactAnswer withoutFault
   answer-cut = rw (policy-cut p)

@@ -7,7 +7,7 @@ use lib.Dec.{eqb}
 use lib.ListN.{take}
 use Rattle.text.specs.Text.{Text, bytes, same, isEmpty}
 use Rattle.text.specs.Number.{decimal, Taken, taken, refused, takeNumber}
-use Rattle.run_model.specs.Entries.{Lent, Outcome, redactOutcome}
+use Rattle.run_model.specs.Entries.{LentReport, RedactOutcome, redactOutcome}
 
 -- ---- the key
 
@@ -38,7 +38,7 @@ unfoldable pub printed : ℕ → ℕ → Text → Text → ℕ → Text
 printed number line text report rows = cond (eqb number 0) (text ++ (report ++ rowsLine rows)) (refusedLine number line)
 
 -- "Text and report are what output and report hold up to their lengths"
-unfoldable pub printedOutcome : Outcome → Text
+unfoldable pub printedOutcome : RedactOutcome → Text
 printedOutcome o = printed (o .number) (o .line) (take (o .textLength) (o .output)) (take (o .reportLength) (o .report)) (o .rows)
 
 -- "`bad input` and LF alone"
@@ -48,8 +48,8 @@ badInput = bytes "bad input\n"
 -- ---- the whole program
 
 -- "lends a report of 65,536 bytes"; the other two are as long as they must be
-unfoldable pub buffers : Lent
-buffers = record { output = 49152; report = 65536; scratch = 49152 }
+unfoldable pub buffers : LentReport
+buffers = record { buffers = record { output = 49152; scratch = 49152 }; report = 65536 }
 
 -- "a missing file or a bad key prints `bad input` and LF alone": from the bytes of message and policy, none if missing, and the key, none if bad
 unfoldable pub strippedWith : Option Text → Option Text → Option ℕ → Text

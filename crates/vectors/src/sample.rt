@@ -5,11 +5,12 @@ use super::lines::input;
 use super::parts::Page;
 use super::parts::front;
 use super::parts::part;
-use entries::handed::Handed;
 use entries::payload::payload;
 use entries::print::append;
 use entries::print::builtin;
 use entries::print::print;
+use entries::returned::Returned;
+use entries::returned::ReturnedReport;
 use redact::redact::redact;
 use text::bytes::same_bytes;
 use text::decimal::Number;
@@ -59,19 +60,19 @@ fn is_text(line: &[u8], k: usize, n: u64, page: &Page, len: usize) -> bool {
 }
 
 // Whether a call handed back what the line says. Field 12, which no line has, is empty.
-fn is_handed(
+fn is_returned(
     line: &[u8],
-    handed: Handed,
+    returned: ReturnedReport,
     room: Room,
     output: &Page,
     report: &Page,
     scratch: &Page,
 ) -> bool {
-    is_number(line, 1, handed.number as u64)
-        & is_number(line, 2, handed.line)
-        & is_number(line, 3, handed.rows)
-        & is_text(line, 4, handed.text_len, output, room.output)
-        & is_text(line, 5, handed.report_len, report, room.report)
+    is_number(line, 1, returned.number as u64)
+        & is_number(line, 2, returned.line)
+        & is_number(line, 3, returned.rows)
+        & is_text(line, 4, returned.text_len, output, room.output)
+        & is_text(line, 5, returned.report_len, report, room.report)
         & is_text(line, 12, 0, scratch, room.scratch)
 }
 
@@ -92,6 +93,17 @@ fn room_of(line: &[u8]) -> Room {
     }
 }
 
+// What an entry that is lent no report hands back, with no rows.
+fn no_rows(r: Returned) -> ReturnedReport {
+    ReturnedReport {
+        number: r.number,
+        line: r.line,
+        text_len: r.text_len,
+        report_len: 0,
+        rows: 0,
+    }
+}
+
 // Calls the group's entry.
 fn call(
     group: usize,
@@ -101,13 +113,13 @@ fn call(
     output: &mut [u8],
     report: &mut [u8],
     scratch: &mut [u8],
-) -> Handed {
+) -> ReturnedReport {
     match group {
         18 => redact(a, b, key, output, report, scratch),
-        19 => print(a, output, scratch),
-        20 => append(a, b, output, scratch),
-        21 => builtin(key, output, scratch),
-        _ => payload(a, b, key, output, scratch),
+        19 => no_rows(print(a, output, scratch)),
+        20 => no_rows(append(a, b, output, scratch)),
+        21 => no_rows(builtin(key, output, scratch)),
+        _ => no_rows(payload(a, b, key, output, scratch)),
     }
 }
 
@@ -120,8 +132,8 @@ fn is_right_with(group: usize, line: &[u8], a: &[u8], b: &[u8], key: u64) -> boo
     let o = part(&mut output, room.output);
     let r = part(&mut report, room.report);
     let s = part(&mut scratch, room.scratch);
-    let handed = call(group, a, b, key, o, r, s);
-    is_handed(line, handed, room, &output, &report, &scratch)
+    let returned = call(group, a, b, key, o, r, s);
+    is_returned(line, returned, room, &output, &report, &scratch)
 }
 
 // The same with the inputs that the line states.

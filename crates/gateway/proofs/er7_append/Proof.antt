@@ -1,8 +1,7 @@
 use borrow.Author.Needs.{needs}
 use Rattle.gateway.proofs.er7_append.Statement.{statement}
 use Rattle.gateway.proofs.er7_append.Tie as tie
-use Rattle.run_model.specs.Entries.{appendOutcome}
-use Rattle.gateway.proofs.Laws.{append-none, handed-text}
+use Rattle.gateway.proofs.Laws.{returned-text}
 
 append-requires : tie.Need-append-requires
 append-requires c κs = search needs
@@ -14,8 +13,7 @@ same-length-2 : tie.Need-same-length-2
 same-length-2 c = search needs
 
 returns : tie.Need-returns
-unfolding appendOutcome
-returns c = handed-text _ _ (append-none _ _ _) _ _ _ (c .before .before .before .before .append .ensures)
+returns c = returned-text _ _ _ (c .before .before .before .before .append .ensures)
 
 pub er7-append-spec : {M : Type 1} → statement M
 er7-append-spec = tie.close (tie.spec append-requires same-length same-length-2 returns)

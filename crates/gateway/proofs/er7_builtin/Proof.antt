@@ -1,8 +1,7 @@
 use borrow.Author.Needs.{needs}
 use Rattle.gateway.proofs.er7_builtin.Statement.{statement}
 use Rattle.gateway.proofs.er7_builtin.Tie as tie
-use Rattle.run_model.specs.Entries.{builtinOutcome}
-use Rattle.gateway.proofs.Laws.{builtin-none, handed-text}
+use Rattle.gateway.proofs.Laws.{returned-text}
 
 builtin-requires : tie.Need-builtin-requires
 builtin-requires c κs = search needs
@@ -14,8 +13,7 @@ same-length-2 : tie.Need-same-length-2
 same-length-2 c = search needs
 
 returns : tie.Need-returns
-unfolding builtinOutcome
-returns c = handed-text _ _ (builtin-none _ _) _ _ _ (c .before .before .before .before .builtin .ensures)
+returns c = returned-text _ _ _ (c .before .before .before .before .builtin .ensures)
 
 pub er7-builtin-spec : {M : Type 1} → statement M
 er7-builtin-spec = tie.close (tie.spec builtin-requires same-length same-length-2 returns)

@@ -1,8 +1,7 @@
 use borrow.Author.Needs.{needs}
 use Rattle.gateway.proofs.er7_payload.Statement.{statement}
 use Rattle.gateway.proofs.er7_payload.Tie as tie
-use Rattle.run_model.specs.Entries.{payloadOutcome}
-use Rattle.gateway.proofs.Laws.{payload-none, handed-text}
+use Rattle.gateway.proofs.Laws.{returned-text}
 
 payload-requires : tie.Need-payload-requires
 payload-requires c κs = search needs
@@ -14,8 +13,7 @@ same-length-2 : tie.Need-same-length-2
 same-length-2 c = search needs
 
 returns : tie.Need-returns
-unfolding payloadOutcome
-returns c = handed-text _ _ (payload-none _ _ _ _) _ _ _ (c .before .before .before .before .payload .ensures)
+returns c = returned-text _ _ _ (c .before .before .before .before .payload .ensures)
 
 pub er7-payload-spec : {M : Type 1} → statement M
 er7-payload-spec = tie.close (tie.spec payload-requires same-length same-length-2 returns)

@@ -1,8 +1,7 @@
 use borrow.Author.Needs.{needs}
 use Rattle.gateway.proofs.er7_print.Statement.{statement}
 use Rattle.gateway.proofs.er7_print.Tie as tie
-use Rattle.run_model.specs.Entries.{printOutcome}
-use Rattle.gateway.proofs.Laws.{print-none, handed-text}
+use Rattle.gateway.proofs.Laws.{returned-text}
 
 print-requires : tie.Need-print-requires
 print-requires c κs = search needs
@@ -14,8 +13,7 @@ same-length-2 : tie.Need-same-length-2
 same-length-2 c = search needs
 
 returns : tie.Need-returns
-unfolding printOutcome
-returns c = handed-text _ _ (print-none _ _) _ _ _ (c .before .before .before .before .print .ensures)
+returns c = returned-text _ _ _ (c .before .before .before .before .print .ensures)
 
 pub er7-print-spec : {M : Type 1} → statement M
 er7-print-spec = tie.close (tie.spec print-requires same-length same-length-2 returns)

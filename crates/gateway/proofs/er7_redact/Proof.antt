@@ -1,7 +1,7 @@
 use borrow.Author.Needs.{needs}
 use Rattle.gateway.proofs.er7_redact.Statement.{statement}
 use Rattle.gateway.proofs.er7_redact.Tie as tie
-use Rattle.gateway.proofs.Laws.{handed-whole}
+use Rattle.gateway.proofs.Laws.{returned-report}
 
 redact-requires : tie.Need-redact-requires
 redact-requires c κs = search needs
@@ -16,7 +16,7 @@ same-length-3 : tie.Need-same-length-3
 same-length-3 c = search needs
 
 returns : tie.Need-returns
-returns c = handed-whole _ _ _ _ (c .before .before .before .before .before .before .redact .ensures)
+returns c = returned-report _ _ _ _ (c .before .before .before .before .before .before .redact .ensures)
 
 pub er7-redact-spec : {M : Type 1} → statement M
 er7-redact-spec =

@@ -12,14 +12,14 @@ enum-told c = search needs
 copy-at-requires : tie.Need-copy-at-requires
 copy-at-requires c κs = search needs
 
-finish-text-requires : tie.Need-finish-text-requires
-finish-text-requires c κs = search needs
+finish-requires : tie.Need-finish-requires
+finish-requires c κs = search needs
 
 enum-told-2 : tie.Need-enum-told-2
 enum-told-2 c = search needs
 
-refuse-text-requires : tie.Need-refuse-text-requires
-refuse-text-requires c κs = search needs
+refuse-requires : tie.Need-refuse-requires
+refuse-requires c κs = search needs
 
 enum-known-u : tie.Need-enum-known-u
 enum-known-u c = search needs
@@ -27,8 +27,8 @@ enum-known-u c = search needs
 put-applied-requires : tie.Need-put-applied-requires
 put-applied-requires c κs = (apply-held _ _ (c .before .before .u .given .1) (c .before .before .before .before .before .before .before .before .pre .0), apply-short _ _ _ (c .before .before .u .given .1) (c .before .before .before .before .before .before .before .before .pre .1), c .before .before .before .before .before .before .before .before .pre .2, c .before .before .before .before .before .before .before .before .pre .3)
 
-finish-text-requires-2 : tie.Need-finish-text-requires-2
-finish-text-requires-2 c κs = search needs
+finish-requires-2 : tie.Need-finish-requires-2
+finish-requires-2 c κs = search needs
 
 same-length : tie.Need-same-length
 same-length c = search needs
@@ -37,7 +37,7 @@ same-length-2 : tie.Need-same-length-2
 same-length-2 c = search needs
 
 returns : tie.Need-returns
-returns c = c .before .before .before .before .finish-text .ensures _ (front-wrote (c .before .before .before .before .before .before .before .before .before .copy-at .ensures)) ∙ same-lent _ _ _ (c .before .before .before .before .before .before .before .before .before .copy-at .kept .0) ∙ ap (outcome _) (sym (answer-pass _ _ _ _ (c .before .before .before .before .before .before .before .before .before .before .before .enum-told .given .1)))
+returns c = c .before .before .before .before .finish .ensures _ (front-wrote (c .before .before .before .before .before .before .before .before .before .copy-at .ensures)) ∙ same-lent _ _ (c .before .before .before .before .before .before .before .before .before .copy-at .kept .0) ∙ ap (outcome _) (sym (answer-pass _ _ _ _ (c .before .before .before .before .before .before .before .before .before .before .before .enum-told .given .1)))
 
 same-length-3 : tie.Need-same-length-3
 same-length-3 c = search needs
@@ -46,7 +46,7 @@ same-length-4 : tie.Need-same-length-4
 same-length-4 c = search needs
 
 returns-2 : tie.Need-returns-2
-returns-2 c = c .before .before .before .before .refuse-text .ensures ∙ ap (outcome _) (sym (answer-refuse _ _ _ _ (c .before .before .before .before .before .before .before .enum-told2 .given .1)))
+returns-2 c = c .before .before .before .before .refuse .ensures ∙ ap (outcome _) (sym (answer-refuse _ _ _ _ (c .before .before .before .before .before .before .before .enum-told2 .given .1)))
 
 same-length-5 : tie.Need-same-length-5
 same-length-5 c = search needs
@@ -55,7 +55,7 @@ same-length-6 : tie.Need-same-length-6
 same-length-6 c = search needs
 
 returns-3 : tie.Need-returns-3
-returns-3 c = c .before .before .before .before .finish-text2 .ensures _ (front-wrote (c .before .before .before .before .before .before .before .before .before .put-applied .ensures)) ∙ same-lent _ _ _ (c .before .before .before .before .before .before .before .before .before .put-applied .kept .1 .1 .1 .1 .0) ∙ ap (outcome _) (sym (answer-apply _ _ _ _ (c .before .before .before .before .before .before .before .before .before .before .before .before .u .given .1)))
+returns-3 c = c .before .before .before .before .finish2 .ensures _ (front-wrote (c .before .before .before .before .before .before .before .before .before .put-applied .ensures)) ∙ same-lent _ _ (c .before .before .before .before .before .before .before .before .before .put-applied .kept .1 .1 .1 .1 .0) ∙ ap (outcome _) (sym (answer-apply _ _ _ _ (c .before .before .before .before .before .before .before .before .before .before .before .before .u .given .1)))
 
 pub answer-payload-spec : {M : Type 1} → statement M
 answer-payload-spec =
@@ -63,12 +63,12 @@ answer-payload-spec =
     (tie.spec
     enum-told
     copy-at-requires
-    finish-text-requires
+    finish-requires
     enum-told-2
-    refuse-text-requires
+    refuse-requires
     enum-known-u
     put-applied-requires
-    finish-text-requires-2
+    finish-requires-2
     same-length
     same-length-2
     returns

@@ -7,8 +7,8 @@ use borrow.Author.Tests.{not-true, not-false}
 use Rattle.run_model.specs.Entries.{outcome}
 use Rattle.entries.proofs.Payloads.{fault-long, fault-foreign, fault-none}
 
-refuse-text-requires : tie.Need-refuse-text-requires
-refuse-text-requires c κs = search needs
+refuse-requires : tie.Need-refuse-requires
+refuse-requires c κs = search needs
 
 same-length : tie.Need-same-length
 same-length c = search needs
@@ -17,13 +17,13 @@ same-length-2 : tie.Need-same-length-2
 same-length-2 c = search needs
 
 returns : tie.Need-returns
-returns c = c .before .before .before .before .refuse-text .ensures ∙ ap (outcome _) (sym (fault-long _ _ (omega arith)))
+returns c = c .before .before .before .before .refuse .ensures ∙ ap (outcome _) (sym (fault-long _ _ (omega arith)))
 
 are-payload-bytes-requires : tie.Need-are-payload-bytes-requires
 are-payload-bytes-requires c κs = search needs
 
-refuse-text-requires-2 : tie.Need-refuse-text-requires-2
-refuse-text-requires-2 c κs = search needs
+refuse-requires-2 : tie.Need-refuse-requires-2
+refuse-requires-2 c κs = search needs
 
 same-length-3 : tie.Need-same-length-3
 same-length-3 c = search needs
@@ -32,7 +32,7 @@ same-length-4 : tie.Need-same-length-4
 same-length-4 c = search needs
 
 returns-2 : tie.Need-returns-2
-returns-2 c = c .before .before .before .before .refuse-text2 .ensures ∙ ap (outcome _) (sym (fault-foreign _ _ (omega arith) (sym (c .before .before .before .before .before .before .before .before .are-payload-bytes .ensures) ∙ not-true _ (c .before .before .before .before .before .before .before .if2 .taken))))
+returns-2 c = c .before .before .before .before .refuse2 .ensures ∙ ap (outcome _) (sym (fault-foreign _ _ (omega arith) (sym (c .before .before .before .before .before .before .before .before .are-payload-bytes .ensures) ∙ not-true _ (c .before .before .before .before .before .before .before .if2 .taken))))
 
 answer-payload-requires : tie.Need-answer-payload-requires
 answer-payload-requires c κs = (c .before .before .before .before .before .before .before .before .before .pre .0, c .before .before .before .before .before .before .before .before .before .pre .1, omega arith, c .before .before .before .before .before .before .before .before .before .pre .2)
@@ -50,12 +50,12 @@ pub judge-spec : {M : Type 1} → statement M
 judge-spec =
     tie.close
     (tie.spec
-    refuse-text-requires
+    refuse-requires
     same-length
     same-length-2
     returns
     are-payload-bytes-requires
-    refuse-text-requires-2
+    refuse-requires-2
     same-length-3
     same-length-4
     returns-2

@@ -10,8 +10,8 @@ use Rattle.entries.proofs.Printing.{written-in, appended-answer}
 is-short-requires : tie.Need-is-short-requires
 is-short-requires c κs = search needs
 
-refuse-text-requires : tie.Need-refuse-text-requires
-refuse-text-requires c κs = search needs
+refuse-requires : tie.Need-refuse-requires
+refuse-requires c κs = search needs
 
 same-length : tie.Need-same-length
 same-length c = search needs
@@ -21,10 +21,10 @@ same-length-2 c = search needs
 
 returns : tie.Need-returns
 unfolding appendOutcome appendAnswer
-returns c = c .before .before .before .before .refuse-text .ensures ∙ with-short _ _ (sym (c .before .before .before .before .before .before .before .before .is-short .ensures 0) ∙ c .before .before .before .before .before .before .before .if1 .taken)
+returns c = c .before .before .before .before .refuse .ensures ∙ with-short _ _ (sym (c .before .before .before .before .before .before .before .before .is-short .ensures) ∙ c .before .before .before .before .before .before .before .if1 .taken)
 
 append-requires : tie.Need-append-requires
-append-requires c κs = omega (arith, wide-output _ _ _ (sym (c .before .before .is-short .ensures 0) ∙ c .before .if1 .left))
+append-requires c κs = omega (arith, wide-output _ _ (sym (c .before .before .is-short .ensures) ∙ c .before .if1 .left))
 
 answer-requires : tie.Need-answer-requires
 answer-requires c κs = written-in _ (c .before .before .before .before .append .ensures) (c .before .before .before .before .append .kept .1 .1 .0)
@@ -37,14 +37,14 @@ same-length-4 c = search needs
 
 returns-2 : tie.Need-returns-2
 unfolding appendOutcome appendAnswer
-returns-2 c = c .before .before .before .before .answer .ensures _ _ (c .before .before .before .before .before .before .before .before .before .append .ensures) ∙ same-lent _ _ _ (c .before .before .before .before .before .before .before .before .before .append .kept .1 .1 .0) ∙ with-wide _ _ (sym (c .before .before .before .before .before .before .before .before .before .before .before .before .is-short .ensures 0) ∙ c .before .before .before .before .before .before .before .before .before .before .before .if1 .left) (sym (appended-answer _ _))
+returns-2 c = c .before .before .before .before .answer .ensures _ _ (c .before .before .before .before .before .before .before .before .before .append .ensures) ∙ same-lent _ _ (c .before .before .before .before .before .before .before .before .before .append .kept .1 .1 .0) ∙ with-wide _ _ (sym (c .before .before .before .before .before .before .before .before .before .before .before .before .is-short .ensures) ∙ c .before .before .before .before .before .before .before .before .before .before .before .if1 .left) (sym (appended-answer _ _))
 
 pub append-spec : {M : Type 1} → statement M
 append-spec =
     tie.close
     (tie.spec
     is-short-requires
-    refuse-text-requires
+    refuse-requires
     same-length
     same-length-2
     returns

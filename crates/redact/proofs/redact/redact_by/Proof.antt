@@ -23,10 +23,10 @@ same-length-2 : tie.Need-same-length-2
 same-length-2 c = search needs
 
 returns : tie.Need-returns
-returns c = λ b e. policy-read _ _ (read-as _ _ (c .before .before .before .before .before .before .before .before .before .before .parse .ensures) (c .before .before .before .before .before .before .before .enum-told .given .1)) (c .before .before .before .before .redact-message .ensures b e)
+returns c = policy-read _ _ (read-as _ _ (c .before .before .before .before .before .before .before .before .before .before .parse .ensures) (c .before .before .before .before .before .before .before .enum-told .given .1)) (c .before .before .before .before .redact-message .ensures)
 
 returns-2 : tie.Need-returns-2
-returns-2 c = λ b e. policy-refused _ _ (refused-as _ _ (c .before .before .before .before .parse .ensures) (c .before .verdict .given .1))
+returns-2 c = policy-refused _ _ (refused-as _ _ (c .before .before .before .before .parse .ensures) (c .before .verdict .given .1))
 
 pub redact-by-spec : {M : Type 1} → statement M
 redact-by-spec =

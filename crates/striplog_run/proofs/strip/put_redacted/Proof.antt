@@ -2,8 +2,8 @@ use native.Mathlib.Omega.{arith}
 use borrow.Author.Needs.{needs}
 use Rattle.striplog_run.proofs.strip.put_redacted.Statement.{statement}
 use Rattle.striplog_run.proofs.strip.put_redacted.Tie as tie
-use Rattle.striplog_run.proofs.Laws.{text-end, report-end, handed-prints}
-use Rattle.striplog_run.proofs.Laws.{text-end, report-end, handed-room, handed-prints}
+use Rattle.striplog_run.proofs.Laws.{text-end, report-end, returned-prints}
+use Rattle.striplog_run.proofs.Laws.{text-end, report-end, returned-room, returned-prints}
 
 slice-aggregate-redact : tie.Need-slice-aggregate-redact
 slice-aggregate-redact c = search needs
@@ -36,13 +36,13 @@ part-put-outcome-end-2 : tie.Need-part-put-outcome-end-2
 part-put-outcome-end-2 c = omega (arith, report-end _ _ _ _ _ _ _ (c .before .before .before .before .before .before .redact .ensures) (omega arith))
 
 put-outcome-requires : tie.Need-put-outcome-requires
-put-outcome-requires c κs = handed-room (c .before .before .before .before .before .before .before .before .redact .result) _ _ _ (omega arith) (omega arith) (omega arith) (omega arith) (omega arith) (omega arith)
+put-outcome-requires c κs = returned-room (c .before .before .before .before .before .before .before .before .redact .result) _ _ _ (omega arith) (omega arith) (omega arith) (omega arith) (omega arith) (omega arith)
 
 same-length : tie.Need-same-length
 same-length c = search needs
 
 returns : tie.Need-returns
-returns c = rw (handed-prints _ _ _ _ _ _ _ (c .before .before .before .before .before .before .before .before .before .before .before .redact .ensures)) at (c .before .before .put-outcome .ensures)
+returns c = rw (returned-prints _ _ _ _ _ _ _ (c .before .before .before .before .before .before .before .before .before .before .before .redact .ensures)) at (c .before .before .put-outcome .ensures)
 
 pub put-redacted-spec : {M : Type 1} → statement M
 put-redacted-spec =
