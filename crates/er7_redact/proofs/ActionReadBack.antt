@@ -20,7 +20,7 @@ use Rattle.er7_redact.proofs.Actions.{replacement-part}
 use Rattle.er7_redact.specs.declared.action.Action.{Action as HeldAction}
 use Rattle.er7_redact.specs.declared.action.ParsedAction.{ParsedAction}
 use Rattle.er7_redact.specs.declared.action.ParsedAction.the-variants.{Parsed}
-use Rattle.er7_redact.specs.Action.{Action, keep, clear, null, pseudonym, replace, mask, first, last, name, argument, verbWithArgument, verb, bare, readReplace, readMask, withoutPlus, whole, readCount, readArgument, readAction, printAction, replacement, asAction, ActionHeld, heldAs, heldAction, argumentAt}
+use Rattle.er7_redact.specs.Action.{Action, ActionRead, is-action, no-action, orBad, keep, clear, null, pseudonym, replace, mask, first, last, name, argument, verbWithArgument, verb, bare, readReplace, readMask, withoutPlus, whole, readCount, readArgument, readAction, printAction, replacement, asAction, ActionHeld, heldAs, heldRead, argumentAt}
 
 -- an action as reading gives it
 pub data GoodAction : Action → Type 0 where
@@ -62,13 +62,13 @@ decimal-begins n = go (decimal n) (decimal-all n)
     go [] e = unfold stop in refl
     go (x ∷ s) e = unfold stop all in rw (digit-plain x (and-left (isDigit x) (all isDigit s) e) .1)
 
-action-back : (a : Action) → GoodAction a → readAction (printAction a) ≡ some a
+action-back : (a : Action) → GoodAction a → readAction (printAction a) ≡ is-action a
 unfolding readAction printAction bytes name argument verbWithArgument verb readArgument bare isWord same lower lowerByte isUpper run rest notBlank isBlank
 action-back keep good-keep = refl
 action-back clear good-clear = refl
 action-back null good-null = refl
 action-back pseudonym good-pseudonym = refl
-action-back (replace t) (good-replace e b) = rw (rest-stop isBlank t b) (replace-back t e)
+action-back (replace t) (good-replace e b) = rw (rest-stop isBlank t b) (ap orBad (replace-back t e))
 action-back (mask c) (good-mask b) = unfold readMask in rw b
 action-back (first n) (good-first h) = rw (rest-stop isBlank (decimal n) (decimal-begins n), count-back n h)
 action-back (last n) (good-last h) = rw (rest-stop isBlank (decimal n) (decimal-begins n), count-back n h)
@@ -113,15 +113,24 @@ argument-from Verbs.Last s h = count-from GoodAction last (λ n l. good-last l) 
 argument-from Verbs.Pseudonym s h = bare-from GoodAction pseudonym s good-pseudonym
 argument-from Verbs.Unknown s h = tt
 
-pub action-from : (s : Text) → Maybe GoodAction (readAction s)
+-- what was read has P, if it is an action
+abbrev pub IfRead : (Action → Type 0) → ActionRead → Type 0
+IfRead P (is-action a) = P a
+IfRead P (no-action e) = Unit {0}
+
+pub if-read : (P : Action → Type 0) (o : Option Action) → Maybe P o → IfRead P (orBad o)
+if-read P none h = tt
+if-read P (some a) h = h
+
+pub action-from : (s : Text) → IfRead GoodAction (readAction s)
 unfolding readAction argument
-action-from s = argument-from (verb (name s)) (argument s) (stop-rest isBlank (rest notBlank s))
+action-from s = if-read GoodAction (readArgument (verb (name s)) (argument s)) (argument-from (verb (name s)) (argument s) (stop-rest isBlank (rest notBlank s)))
 
 -- ---- the law
 
 -- an action that was read, printed, reads back as that action
-pub action-read-back : (s : Text) (a : Action) → readAction s ≡ some a → readAction (printAction a) ≡ some a
-action-read-back s a e = action-back a (subst (Maybe GoodAction) e (action-from s))
+pub action-read-back : (s : Text) (a : Action) → readAction s ≡ is-action a → readAction (printAction a) ≡ is-action a
+action-read-back s a e = action-back a (subst (IfRead GoodAction) e (action-from s))
 
 -- ---- the enum stands for what was read
 
@@ -162,14 +171,14 @@ unfolding argumentAt argument
 argument-ends s = omega (arith, run-rest-length notBlank s, run-rest-length isBlank (rest notBlank s))
 
 -- in a text where s stands from index base on, the enum stands for the action that was read
-pub held-stands : (t s : Text) (base : ℕ) (a : Action) → part t base (length s) ≡ s → readAction s ≡ some a
+pub held-stands : (t s : Text) (base : ℕ) (a : Action) → part t base (length s) ≡ s → readAction s ≡ is-action a
     → asAction t (heldAs (base + argumentAt s) (length (argument s)) a) ≡ a
 unfolding readAction stands
 held-stands t s base a w e =
     let k = argument-ends s in
     let n : length s - argumentAt s ≡ length (argument s) = omega arith in
     let q : part t (base + argumentAt s) (length (argument s)) ≡ argument s = rw (← n) (part-behind t s base (argumentAt s) w (omega arith) ∙ argument-suffix s) in
-    subst (Maybe (stands t (base + argumentAt s) (argument s))) e (argument-stands t (base + argumentAt s) (verb (name s)) (argument s) q)
+    subst (IfRead (stands t (base + argumentAt s) (argument s))) e (if-read (stands t (base + argumentAt s) (argument s)) (readArgument (verb (name s)) (argument s)) (argument-stands t (base + argumentAt s) (verb (name s)) (argument s) q))
 
 -- and its replacement lies in that text
 held-inside : (t : Text) (i n : ℕ) (a : Action) → i + n ≤ length t → ActionHeld t (heldAs i n a)
@@ -184,11 +193,11 @@ held-inside t i n (first m) k = tt
 held-inside t i n (last m) k = tt
 
 pub parsed-held : (t s : Text) (base : ℕ) (r : ParsedAction) (h : HeldAction) → base + length s ≤ length t
-    → r ≡ heldAction (base + argumentAt s) (length (argument s)) (readAction s) → r ≡ Parsed h → ActionHeld t h
+    → r ≡ heldRead (base + argumentAt s) (length (argument s)) (readAction s) → r ≡ Parsed h → ActionHeld t h
 parsed-held t s base r h l e f = go (readAction s) (sym f ∙ e)
   where
-    go : (o : Option Action) → Parsed h ≡ heldAction (base + argumentAt s) (length (argument s)) o → ActionHeld t h
-    go none q = unfold heldAction in let z : _≡_ {A = ℕ} 0 1 = cc in absurd (omega arith)
-    go (some a) q = unfold heldAction in
+    go : (o : ActionRead) → Parsed h ≡ heldRead (base + argumentAt s) (length (argument s)) o → ActionHeld t h
+    go (no-action x) q = unfold heldRead in let z : _≡_ {A = ℕ} 0 1 = cc in absurd (omega arith)
+    go (is-action a) q = unfold heldRead in
         let w : h ≡ heldAs (base + argumentAt s) (length (argument s)) a = cc in
         rw w (held-inside t (base + argumentAt s) (length (argument s)) a (omega (arith, argument-ends s)))

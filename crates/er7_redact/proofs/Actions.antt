@@ -20,9 +20,10 @@ use Rattle.pseudonym.specs.Pseudonym as P
 use Rattle.er7_redact.specs.declared.action.Applied.the-variants.{Written, Nothing}
 use Rattle.er7_redact.specs.declared.action.Action.{Action as HeldAction}
 use Rattle.er7_redact.specs.declared.action.Action.the-variants as Held
+use Rattle.refusal.specs.declared.Refusal.the-variants.{BadAction}
 use Rattle.er7_redact.specs.declared.action.ParsedAction.{ParsedAction}
-use Rattle.er7_redact.specs.declared.action.ParsedAction.the-variants.{Parsed, BadAction}
-use Rattle.er7_redact.specs.Action.{Action, apply, asAction, ActionHeld, replacement, name, argument, argumentAt, verb, readAction, withoutPlus, whole, readCount, readMask, readReplace, readArgument, bare, heldAs, heldAction, answer, written, room}
+use Rattle.er7_redact.specs.declared.action.ParsedAction.the-variants.{Parsed, Refused}
+use Rattle.er7_redact.specs.Action.{Action, apply, asAction, ActionHeld, replacement, name, argument, argumentAt, verb, readAction, withoutPlus, whole, readCount, readMask, readReplace, readArgument, bare, heldAs, orBad, heldAction, heldRead, answer, written, room}
 use Rattle.er7_redact.specs.Inner.{heldBare, heldCount, heldCounted, CountFrom}
 
 -- ---- counts
@@ -61,7 +62,7 @@ module _ (s : Text) (i : ℕ) (a : HeldAction) where
   unfolding heldBare
   bare-end h = sym (rw (drop-of-length-le s {i = i} (omega arith)))
 
-  pub bare-more : i < length s → BadAction ≡ heldBare a (drop i s)
+  pub bare-more : i < length s → Refused BadAction ≡ heldBare a (drop i s)
   unfolding heldBare
   bare-more h = sym (rw (drop-step s i h))
 
@@ -74,11 +75,16 @@ module _ (s : Text) (i j n : ℕ) where
   unfolding heldAction heldAs readMask
   mask-one h = sym (rw (drop-step s i (omega arith), drop-of-length-le s {i = i + 1} (omega arith)))
 
-  pub mask-more : i + 1 < length s → BadAction ≡ heldAction j n (readMask (drop i s))
+  pub mask-more : i + 1 < length s → Refused BadAction ≡ heldAction j n (readMask (drop i s))
   unfolding heldAction readMask
   mask-more h = sym (rw (drop-step s i (omega arith), drop-step s (i + 1) h))
 
 -- each verb
+held-or : (i n : ℕ) (o : Option Action) → heldAction i n o ≡ heldRead i n (orBad o)
+unfolding heldAction heldRead
+held-or i n none = refl
+held-or i n (some a) = refl
+
 bare-held : (j n : ℕ) (a : Action) (t : Text) → heldBare (heldAs j n a) t ≡ heldAction j n (bare a t)
 unfolding heldBare heldAction bare
 bare-held j n a [] = refl
@@ -129,9 +135,9 @@ module _ {s : Text} {e k : ℕ} (f : RunEnd (isIn NotBlank) s 0 e) (g : RunEnd (
   argument-length = rw (← argument-is) (length-drop k s)
 
   pub action-read : (base : ℕ) {v : Verb} {r : ParsedAction} → v ≡ verb (take (e - 0) s) → r ≡ heldAction (base + k) (length s - k) (readArgument v (drop k s))
-      → r ≡ heldAction (base + argumentAt s) (length (argument s)) (readAction s)
+      → r ≡ heldRead (base + argumentAt s) (length (argument s)) (readAction s)
   unfolding readAction
-  action-read base h q = q ∙ rw (h, name-is, argument-is, argument-starts, argument-length)
+  action-read base h q = q ∙ rw (h, name-is, argument-is, argument-starts, argument-length) (held-or _ _ (readArgument (verb (name s)) (argument s)))
 
 -- ---- printing
 

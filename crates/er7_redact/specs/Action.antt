@@ -4,16 +4,19 @@ use mathlib.Core.List.{[], _∷_, _++_}
 use mathlib.Core.Option.{Option, none, some, Option·map}
 use Prim.Native.Nat.{ℕ, _+_, _-_, _≤_}
 use lib.Dec.{eqb}
-use lib.ListN.{length, take, drop, replicate}
-use Rattle.text.specs.Text.{Text, bytes, isBlank, notBlank, isWord, run, rest, part}
+use lib.ListN.{length, take}
+use Rattle.text.specs.Text.{Text, bytes, isWord, part}
+use Rattle.text.specs.Characters.{charCount, firstChars, lastChars, character, oneChar, maskText, skipBlanks, word, behindWord}
 use Rattle.text.specs.Number.{decimal, Taken, taken, refused, takeNumber}
 use Rattle.pseudonym.specs.Pseudonym as P
+use Rattle.refusal.specs.declared.Refusal.{Refusal}
+use Rattle.refusal.specs.declared.Refusal.the-variants.{BadAction}
 use Rattle.er7_redact.specs.declared.action.Verb.{Verb}
 use Rattle.er7_redact.specs.declared.action.Verb.the-variants as Verbs
 use Rattle.er7_redact.specs.declared.action.Action.{Action as HeldAction}
 use Rattle.er7_redact.specs.declared.action.Action.the-variants as Held
 use Rattle.er7_redact.specs.declared.action.ParsedAction.{ParsedAction}
-use Rattle.er7_redact.specs.declared.action.ParsedAction.the-variants.{Parsed, BadAction}
+use Rattle.er7_redact.specs.declared.action.ParsedAction.the-variants.{Parsed, Refused}
 use Rattle.er7_redact.specs.declared.action.Applied.{Applied}
 use Rattle.er7_redact.specs.declared.action.Applied.the-variants.{Written, Nothing}
 
@@ -44,10 +47,10 @@ isNullAction a = eqb (kind a) 2
 
 -- the name is the first word, and the argument what stands behind the blanks that follow it
 unfoldable pub name : Text → Text
-name s = run notBlank s
+name s = word s
 
 unfoldable pub argument : Text → Text
-argument s = rest isBlank (rest notBlank s)
+argument s = skipBlanks (behindWord s)
 
 -- "Names ignore case": those with an argument, and all
 unfoldable pub verbWithArgument : Text → Verb
@@ -76,8 +79,7 @@ readReplace (x ∷ s) = some (replace (x ∷ s))
 -- "bare `mask` uses `*`"
 unfoldable pub readMask : Text → Option Action
 readMask [] = some (mask 0x2a)
-readMask (x ∷ []) = some (mask x)
-readMask (x ∷ y ∷ s) = none
+readMask (x ∷ s) = Option·map mask (oneChar (x ∷ s))
 
 -- "`first` and `last` need a count, a leading `+` allowed"
 unfoldable pub withoutPlus : Text → Text
@@ -103,9 +105,18 @@ readArgument Verbs.First s = Option·map first (readCount s)
 readArgument Verbs.Last s = Option·map last (readCount s)
 readArgument Verbs.Unknown s = none
 
+-- an action, or the refusal to give: "missing or unreadable"
+pub data ActionRead : Type 0 where
+  is-action : Action → ActionRead
+  no-action : Refusal → ActionRead
+
+abbrev pub orBad : Option Action → ActionRead
+orBad none = no-action BadAction
+orBad (some a) = is-action a
+
 -- an action from a text with no blanks around it
-unfoldable pub readAction : Text → Option Action
-readAction s = readArgument (verb (name s)) (argument s)
+unfoldable pub readAction : Text → ActionRead
+readAction s = orBad (readArgument (verb (name s)) (argument s))
 
 -- ---- printing
 
@@ -115,7 +126,7 @@ printAction clear = bytes "clear"
 printAction null = bytes "null"
 printAction pseudonym = bytes "pseudonym"
 printAction (replace t) = bytes "replace " ++ t
-printAction (mask c) = bytes "mask " ++ (c ∷ [])
+printAction (mask c) = bytes "mask " ++ character c
 printAction (first n) = bytes "first " ++ decimal n
 printAction (last n) = bytes "last " ++ decimal n
 
@@ -128,9 +139,9 @@ apply key clear v = some []
 apply key null v = none
 apply key pseudonym v = some (P.pseudonym key v)
 apply key (replace t) v = some t
-apply key (mask c) v = some (replicate (length v) c)
-apply key (first n) v = some (take n v)
-apply key (last n) v = some (drop (length v - n) v)
+apply key (mask c) v = some (maskText c (charCount v))
+apply key (first n) v = some (firstChars n v)
+apply key (last n) v = some (lastChars n v)
 
 -- ---- the enum: an action whose replacement is a part of a text
 
@@ -172,8 +183,12 @@ heldAs i n (first k) = Held.First k
 heldAs i n (last k) = Held.Last k
 
 unfoldable pub heldAction : ℕ → ℕ → Option Action → ParsedAction
-heldAction i n none = BadAction
+heldAction i n none = Refused BadAction
 heldAction i n (some a) = Parsed (heldAs i n a)
+
+unfoldable pub heldRead : ℕ → ℕ → ActionRead → ParsedAction
+heldRead i n (is-action a) = Parsed (heldAs i n a)
+heldRead i n (no-action e) = Refused e
 
 -- where the argument of s begins
 unfoldable pub argumentAt : Text → ℕ

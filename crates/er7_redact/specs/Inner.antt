@@ -6,8 +6,9 @@ use Prim.Native.Nat.{ℕ, _≤_}
 use lib.ListN.{length, drop}
 use Rattle.text.specs.Text.{Text}
 use Rattle.er7_redact.specs.declared.action.Action.{Action as HeldAction}
+use Rattle.refusal.specs.declared.Refusal.the-variants.{BadAction}
 use Rattle.er7_redact.specs.declared.action.ParsedAction.{ParsedAction}
-use Rattle.er7_redact.specs.declared.action.ParsedAction.the-variants.{Parsed, BadAction}
+use Rattle.er7_redact.specs.declared.action.ParsedAction.the-variants.{Parsed, Refused}
 use Rattle.er7_redact.specs.declared.action.Count.{Count}
 use Rattle.er7_redact.specs.declared.action.Count.the-variants.{Of, BadCount}
 use Rattle.er7_redact.specs.Action.{withoutPlus}
@@ -15,7 +16,7 @@ use Rattle.er7_redact.specs.Action.{withoutPlus}
 -- the enum for an action a that takes no argument, where s stands in the argument's place
 unfoldable pub heldBare : HeldAction → Text → ParsedAction
 heldBare a [] = Parsed a
-heldBare a (x ∷ s) = BadAction
+heldBare a (x ∷ s) = Refused BadAction
 
 -- the enum for a count that was read, and for an action with that count
 unfoldable pub heldCount : Option ℕ → Count
@@ -24,7 +25,7 @@ heldCount (some n) = Of n
 
 unfoldable pub heldCounted : (ℕ → HeldAction) → Count → ParsedAction
 heldCounted f (Of n) = Parsed (f n)
-heldCounted f BadCount = BadAction
+heldCounted f BadCount = Refused BadAction
 
 -- r is where the count begins that stands in s from index i on, behind its sign
 pub record CountFrom (s : Text) (i r : ℕ) : Type 0 where

@@ -1,5 +1,6 @@
 // Actions: what redaction does to a value.
 use pseudonym::pseudonym;
+use refusal::Refusal;
 use text::bytes::Class;
 use text::bytes::byte_at;
 use text::bytes::copy_at;
@@ -14,7 +15,7 @@ ghost use mathlib.Core.Path.{_≡_};
 ghost use Prim.Native.Nat.{ℕ, _+_, _-_, _^_, _≤_, _<_, min};
 ghost use lib.ListN.{length, take, drop};
 ghost use Rattle.text.specs.Text.{Text, Wrote};
-ghost use Rattle.er7_redact.specs.Action.{verbWithArgument, verb, readCount, readMask, readArgument, readAction, printAction, replacement, asAction, ActionHeld, heldAction, argument, argumentAt, answer, written, room, isKeep, isNullAction};
+ghost use Rattle.er7_redact.specs.Action.{verbWithArgument, verb, readCount, readMask, readArgument, readAction, printAction, replacement, asAction, ActionHeld, heldAction, heldRead, argument, argumentAt, answer, written, room, isKeep, isNullAction};
 ghost use Rattle.er7_redact.specs.Inner.{CountFrom, heldBare, heldCounted, heldCount};
 ghost use Rattle.er7_redact.specs.Action as Spec;
 
@@ -32,7 +33,7 @@ pub enum Action {
 
 pub enum ParsedAction {
     Parsed(Action),
-    BadAction,
+    Refused(Refusal),
 }
 
 // An action's name.
@@ -165,7 +166,7 @@ fn read_bare(a: Action, s: &[u8], i: usize) -> ParsedAction
     if i == s.len() {
         return ParsedAction::Parsed(a);
     }
-    ParsedAction::BadAction
+    ParsedAction::Refused(Refusal::BadAction)
 }
 
 // `mask` with the argument that stands in s from index i on.
@@ -179,7 +180,7 @@ fn read_mask(s: &[u8], i: usize) -> ParsedAction
     if i + 1 == s.len() {
         return ParsedAction::Parsed(Action::Mask(s[i]));
     }
-    ParsedAction::BadAction
+    ParsedAction::Refused(Refusal::BadAction)
 }
 
 // `first` and `last` with a count.
@@ -188,7 +189,7 @@ fn first_of(count: Count) -> ParsedAction
 {
     match count {
         Count::Of(n) => ParsedAction::Parsed(Action::First(n)),
-        Count::BadCount => ParsedAction::BadAction,
+        Count::BadCount => ParsedAction::Refused(Refusal::BadAction),
     }
 }
 
@@ -197,7 +198,7 @@ fn last_of(count: Count) -> ParsedAction
 {
     match count {
         Count::Of(n) => ParsedAction::Parsed(Action::Last(n)),
-        Count::BadCount => ParsedAction::BadAction,
+        Count::BadCount => ParsedAction::Refused(Refusal::BadAction),
     }
 }
 
@@ -219,14 +220,14 @@ fn read_argument(v: Verb, s: &[u8], i: usize, base: usize) -> ParsedAction
         Verb::Mask => read_mask(s, i),
         Verb::First => first_of(read_count(s, i)),
         Verb::Last => last_of(read_count(s, i)),
-        Verb::Unknown => ParsedAction::BadAction,
+        Verb::Unknown => ParsedAction::Refused(Refusal::BadAction),
     }
 }
 
 // Reads s, which has no blanks around it and stands in a text from index base on, as an action.
 pub fn parse(s: &[u8], base: usize) -> ParsedAction
     requires { ⌜ base + length (now s) < 2 ^ 64 ⌝ }
-    ensures { λ r. ⌜ r ≡ heldAction (base + argumentAt (now (s .entry))) (length (argument (now (s .entry)))) (readAction (now (s .entry))) ⌝ }
+    ensures { λ r. ⌜ r ≡ heldRead (base + argumentAt (now (s .entry))) (length (argument (now (s .entry)))) (readAction (now (s .entry))) ⌝ }
 {
     let end = run_end(s, 0, Class::NotBlank);
     let start = run_end(s, end, Class::Blank);

@@ -9,7 +9,7 @@ use lib.ListN.{length, drop, replicate}
 use Rattle.text.specs.Text.{Text, bytes, same, all, begins}
 use Rattle.er7.specs.Path.{Path, readPath, printPath}
 use Rattle.pseudonym.specs.Pseudonym.{OFFSET, fold}
-use Rattle.er7_redact.specs.Action.{Action, kind, keep, clear, null, pseudonym, replace, mask, first, last, readAction, apply}
+use Rattle.er7_redact.specs.Action.{Action, ActionRead, is-action, no-action, kind, keep, clear, null, pseudonym, replace, mask, first, last, readAction, apply}
 use Rattle.er7.specs.declared.separators.Separators.{Separators}
 use Rattle.refusal.specs.declared.Refusal.{Refusal}
 use Rattle.refusal.specs.Refusal.{number}
@@ -28,7 +28,8 @@ pub data Row : Type 0 where
   path-prints : String → String → Row
   path-refused : String → Row
   action-is : String → Action → Row
-  action-refused : String → Row
+  -- the text is read as no action, with this number
+  action-refused : String → ℕ → Row
   -- under a key, the action puts the second text in the place of the first
   applies : ℕ → Action → String → String → Row
   -- the FNV-1a hash of the text
@@ -92,6 +93,14 @@ operandOf (last n) = n ∷ []
 
 unfoldable pub sameAction : Action → Action → Bool
 sameAction a b = eqb (kind a) (kind b) && same (operandOf a) (operandOf b)
+
+unfoldable pub readsAs : ActionRead → Action → Bool
+readsAs (is-action a) b = sameAction a b
+readsAs (no-action e) b = false
+
+unfoldable pub actionFault : ActionRead → ℕ → Bool
+actionFault (is-action a) n = false
+actionFault (no-action e) n = eqb (number e) n
 
 unfoldable pub is : {X : Type 0} → (X → X → Bool) → Option X → X → Bool
 is f none y = false
@@ -185,8 +194,8 @@ right (path-is s w o f r c u) =
     is samePath (readPath (bytes s)) (record { segment = bytes w; occurrence = o; field = f; repetition = r; component = c; subcomponent = u })
 right (path-prints s t) = prints printPath (readPath (bytes s)) (bytes t)
 right (path-refused s) = isNone (readPath (bytes s))
-right (action-is s a) = is sameAction (readAction (bytes s)) a
-right (action-refused s) = isNone (readAction (bytes s))
+right (action-is s a) = readsAs (readAction (bytes s)) a
+right (action-refused s n) = actionFault (readAction (bytes s)) n
 right (applies key a s t) = is same (apply key a (bytes s)) (bytes t)
 right (hash-is s h) = eqb (fold OFFSET (bytes s)) h
 right (policy-prints s t) = policyPrints (readPolicy (bytes s)) (bytes t)
@@ -225,7 +234,7 @@ table =
     ∷ path-refused "PID-5[1"
     ∷ path-refused "PID-18446744073709551616"
     ∷ action-is "first +4" (first 4)
-    ∷ action-refused "mask ab"
+    ∷ action-refused "mask ab" 7
     ∷ applies 0 (last 3) "ab" "ab"
     ∷ hash-is "" 0xcbf29ce484222325
     ∷ value-is "a\\F\\b" "a|b" "a\\F\\b"

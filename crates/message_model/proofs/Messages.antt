@@ -13,8 +13,9 @@ use Rattle.text.proofs.Laws.{by-cond}
 use Rattle.er7.specs.declared.message.Place.{Place}
 use Rattle.er7.specs.declared.separators.Separators.{Separators}
 use Rattle.message_model.specs.Message.{Leaf, leaf, Label, Segment, segment, separatorsOf, firstOf, segmentLines, withoutLastCR, endsLeaf, next, leaves, leavesBehind, atField, leavesOf, count, segments, messageOf, messageFault}
-use Rattle.message_model.proofs.Places.{Step, a-field, nextStep, Chain, stepOf, next-step}
+use Rattle.message_model.proofs.Places.{pieceOf, next-piece}
 use Rattle.message_model.proofs.Faultless.{header-line, faultless, separators-are, segments-are}
+use Rattle.message_model.specs.Chain.{Piece, a-field, nextPlace, Chain, Chained}
 
 -- ---- the header
 
@@ -63,24 +64,19 @@ leaves-of-header t e =
 
 -- ---- where the leaves stand
 
--- the leaves of each segment stand next to each other, the first next to where a name stands
-abbrev pub Chained : List Segment → Type 0
-Chained [] = Unit {0}
-Chained (segment g xs ∷ ss) = Chain (atField 0) xs × Chained ss
-
 module _ (s : Separators) where
-  leaves-chain : (t w : Text) (k : Step) (p q : Place) → q ≡ nextStep k p → Chain p (leaves s q w t)
+  leaves-chain : (t w : Text) (k : Piece) (p q : Place) → q ≡ nextPlace k p → Chain p (leaves s q w t)
   unfolding leaves
   leaves-chain [] w k p q e = ((k, e), tt)
   leaves-chain (x ∷ t) w k p q e =
       by-cond (Chain p) (endsLeaf s x) _ _
-      (λ _. ((k, e), leaves-chain t [] (stepOf s x) q (next s x q) (next-step s x q)))
+      (λ _. ((k, e), leaves-chain t [] (pieceOf s x) q (next s x q) (next-piece s x q)))
       (λ _. leaves-chain t (w ++ x ∷ []) k p q e)
 
   behind-chains : (u : Text) (p : Place) → Chain p (leavesBehind s p u)
   unfolding leavesBehind
   behind-chains [] p = tt
-  behind-chains (x ∷ t) p = leaves-chain t [] (stepOf s x) p (next s x p) (next-step s x p)
+  behind-chains (x ∷ t) p = leaves-chain t [] (pieceOf s x) p (next s x p) (next-piece s x p)
 
   pub line-chains : (b : Bool) (l : Text) → Chain (atField 0) (leavesOf s b l)
   unfolding leavesOf

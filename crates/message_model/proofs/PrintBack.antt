@@ -15,8 +15,9 @@ use Rattle.text.proofs.Laws.{clash}
 use Rattle.er7.specs.declared.message.Place.{Place}
 use Rattle.er7.specs.declared.separators.Separators.{Separators}
 use Rattle.message_model.specs.Message.{Leaf, leaf, Label, segment, separatorsOf, isHeader, endsInCR, withoutLastCR, segmentLines, endsLeaf, next, leaves, leavesBehind, atField, leavesOf, isNamed, count, segments, messageOf, segmentsFault, messageFault, touchable, delimiter, lead, printLeaves, printSegments, printMessage}
-use Rattle.message_model.proofs.Places.{Step, a-field, a-repetition, a-component, a-subcomponent, nextStep, Positive, positive-field, positive-next, stepOf, next-step, delimiter-next}
+use Rattle.message_model.proofs.Places.{Positive, positive-field, positive-next, pieceOf, next-piece, delimiter-next}
 use Rattle.message_model.proofs.Faultless.{five-bytes, header-line, named-line, faultless-lines, Lines, lines, faultless, separators-are, segments-are, last-is}
+use Rattle.message_model.specs.Chain.{Piece, a-field, a-repetition, a-component, a-subcomponent, nextPlace}
 
 -- ---- leaves
 
@@ -33,14 +34,14 @@ may-touch g p o = go (g .header) refl
     go true e = rw (lt-leb (p .field) 2 (o .past e))
     go false e = refl
 
-field-step : (k : Step) (p : Place) → p .field ≤ nextStep k p .field
+field-step : (k : Piece) (p : Place) → p .field ≤ nextPlace k p .field
 field-step a-field p = omega arith
 field-step a-repetition p = omega arith
 field-step a-component p = omega arith
 field-step a-subcomponent p = omega arith
 
 field-next : (s : Separators) (x : ℕ) (p : Place) → p .field ≤ next s x p .field
-field-next s x p = rw (next-step s x p) (field-step (stepOf s x) p)
+field-next s x p = rw (next-piece s x p) (field-step (pieceOf s x) p)
 
 delimited-next : (s : Separators) (x : ℕ) (g : Label) (p : Place) → Delimited g p → Delimited g (next s x p)
 delimited-next s x g p o = record {

@@ -1,11 +1,12 @@
 -- The value of a leaf: null, escapes, and words in a value. Assumes nothing: these are definitions.
-use mathlib.Core.Bool.{Bool, true, false, not, cond, _&&_, _||_}
+use mathlib.Core.Bool.{Bool, false, not, cond, _&&_, _||_}
 use mathlib.Core.List.{[], _∷_, _++_}
 use mathlib.Core.Option.{Option, none, some}
 use Prim.Native.Nat.{ℕ, zero, suc, _-_}
 use lib.ListN.{length, drop}
 use lib.Dec.{eqb}
-use Rattle.text.specs.Text.{Text, bytes, isAlphanumeric, isEmpty, same, begins}
+use Rattle.text.specs.Text.{Text, bytes, isEmpty, same, begins}
+use Rattle.text.specs.Characters.{isWordChar, wordBehind}
 use Rattle.er7.specs.declared.separators.Separators.{Separators}
 
 -- "null leaf `""`"
@@ -90,18 +91,17 @@ encode s (b ∷ v) = encodeByte s b (letterOf s b) ++ encode s v
 
 -- no letter or digit stands at the front
 unfoldable pub endsWord : Text → Bool
-endsWord [] = true
-endsWord (x ∷ t) = not (isAlphanumeric x)
+endsWord t = not (isWordChar t)
 
 -- "non-overlapping hits from the left": a hit of v in a text, "with no letter or digit directly before or behind it".
 -- `after` says whether a letter or digit stands before the text; the number is of bytes that still belong to a hit
 unfoldable pub findWord : Text → Bool → ℕ → Text → Bool
 findWord v after k [] = false
-findWord v after (suc k) (x ∷ t) = findWord v (isAlphanumeric x) k t
+findWord v after (suc k) (x ∷ t) = findWord v (wordBehind after (x ∷ t)) k t
 findWord v after zero (x ∷ t) =
     let here = begins v (x ∷ t) in
     let whole = not after && endsWord (drop (length v) (x ∷ t)) in
-    here && whole || findWord v (isAlphanumeric x) (cond here (length v - 1) 0) t
+    here && whole || findWord v (wordBehind after (x ∷ t)) (cond here (length v - 1) 0) t
 
 -- v is a whole word of t; both in lower case
 unfoldable pub isWholeWord : Text → Text → Bool

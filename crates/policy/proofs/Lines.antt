@@ -18,7 +18,7 @@ use Rattle.er7.specs.Path as P
 use Rattle.er7.specs.declared.path.ParsedPath.{ParsedPath}
 use Rattle.er7.specs.declared.path.ParsedPath.the-variants as Paths
 use Rattle.er7.proofs.PathReadBack as PathBack
-use Rattle.er7_redact.specs.Action.{Action, readAction, heldAction, heldAs, argument, argumentAt, asAction}
+use Rattle.er7_redact.specs.Action.{ActionRead, is-action, no-action, heldRead, readAction, heldAs, argument, argumentAt, asAction}
 use Rattle.er7_redact.specs.declared.action.ParsedAction.{ParsedAction}
 use Rattle.er7_redact.specs.declared.action.ParsedAction.the-variants as Actions
 use Rattle.er7_redact.proofs.ActionReadBack as ActionBack
@@ -29,7 +29,8 @@ use Rattle.er7_redact.specs.Policy.{asPosture, asRule}
 use Rattle.er7_redact.specs.declared.policy.Posture.{Posture as HeldPosture}
 use Rattle.er7_redact.specs.declared.policy.Posture.the-variants.{Accept, Reject}
 use Rattle.er7.specs.declared.path.Path.{Path as HeldPath}
-use Rattle.refusal.specs.declared.Refusal.the-variants.{TooMany, BadAction, BadPath, BadDirective}
+use Rattle.refusal.specs.declared.Refusal.{Refusal}
+use Rattle.refusal.specs.declared.Refusal.the-variants.{TooMany, BadPath, BadDirective}
 use Rattle.policy_model.specs.Policy.{posture, unrecognised, trimEnd, prepend, sayAccept, sayReject, sayUnrecognised, sayRule, withAction, withPath, judged, says, head, spoken, notCR, notHash, trim, saysLine}
 use Rattle.policy.specs.declared.line.Unrecognised.{Unrecognised as HeldUnrecognised}
 use Rattle.policy.specs.declared.line.Unrecognised.the-variants.{Pass, Refuse}
@@ -46,16 +47,16 @@ between-part t i e h l = rw (between-length t i e l) (unfold between part in ref
 
 -- an action or a path that was parsed from s, which stands in t from index i on
 module _ (t s : Text) (i : ℕ) (w : part t i (length s) ≡ s) (k : i + length s ≤ length t) where
-  action-in : (r : ParsedAction) → r ≡ heldAction (i + argumentAt s) (length (argument s)) (readAction s) → ActionAt t (readAction s) r
+  action-in : (r : ParsedAction) → r ≡ heldRead (i + argumentAt s) (length (argument s)) (readAction s) → ActionAt t (readAction s) r
   action-in r q = go (readAction s) refl
     where
-      go : (o : Option Action) → readAction s ≡ o → ActionAt t o r
-      go none e = unfold heldAction asParsedAction in rw (q ∙ ap (heldAction _ _) e) (record { is = refl; held = tt })
-      go (some a) e =
-          unfold asParsedAction heldAction in
-          let f : r ≡ Actions.Parsed (heldAs (i + argumentAt s) (length (argument s)) a) = q ∙ ap (heldAction _ _) e in
+      go : (o : ActionRead) → readAction s ≡ o → ActionAt t o r
+      go (no-action x) e = unfold heldRead asParsedAction in rw (q ∙ ap (heldRead _ _) e) (record { is = refl; held = tt })
+      go (is-action a) e =
+          unfold asParsedAction heldRead in
+          let f : r ≡ Actions.Parsed (heldAs (i + argumentAt s) (length (argument s)) a) = q ∙ ap (heldRead _ _) e in
           let g = ActionBack.parsed-held t s i r _ k q f in
-          rw f (record { is = ap some (ActionBack.held-stands t s i a w e); held = g })
+          rw f (record { is = ap is-action (ActionBack.held-stands t s i a w e); held = g })
 
   path-in : (r : ParsedPath) → r ≡ heldPath i (length (run isAlphanumeric s)) (readPath s) → PathAt t (readPath s) r
   path-in r q = go (readPath s) refl
@@ -69,7 +70,7 @@ module _ (t s : Text) (i : ℕ) (w : part t i (length s) ≡ s) (k : i + length 
           rw f (record { is = ap some (PathBack.held-stands t s i p w e); held = g })
 
 module _ (t : Text) (i e : ℕ) (h : i ≤ e) (l : e ≤ length t) where
-  pub action-between : (r : ParsedAction) → r ≡ heldAction (i + argumentAt (between t i e)) (length (argument (between t i e))) (readAction (between t i e))
+  pub action-between : (r : ParsedAction) → r ≡ heldRead (i + argumentAt (between t i e)) (length (argument (between t i e))) (readAction (between t i e))
       → ActionAt t (readAction (between t i e)) r
   action-between r q = action-in t (between t i e) i (between-part t i e h l) (omega (arith, between-length t i e l)) r q
 
@@ -110,7 +111,7 @@ module _ (t : Text) (i e : ℕ) where
     unfolding sayAccept asSaying
     accept-more = record { is = rw (some-between t i e h l); held = tt }
 
-    pub reject-wrong : {r : ParsedAction} → ActionAt t (readAction (between t i e)) r → r ≡ Actions.BadAction → Says t (sayReject (between t i e)) (Wrong BadAction)
+    pub reject-wrong : {r : ParsedAction} {x : Refusal} → ActionAt t (readAction (between t i e)) r → r ≡ Actions.Refused x → Says t (sayReject (between t i e)) (Wrong x)
     unfolding sayReject asSaying withAction asParsedAction
     reject-wrong g q = record { is = rw (some-between t i e h l, sym (g .is), q); held = tt }
 
@@ -123,8 +124,8 @@ module _ (t : Text) (i e : ℕ) where
     }
 
     module _ (not-refuse : isWord (between t i e) (bytes "refuse") ≡ false) (not-pass : isWord (between t i e) (bytes "pass") ≡ false) where
-      pub unrecognised-wrong : {r : ParsedAction} → ActionAt t (readAction (between t i e)) r → r ≡ Actions.BadAction
-          → Says t (sayUnrecognised (between t i e)) (Wrong BadAction)
+      pub unrecognised-wrong : {r : ParsedAction} {x : Refusal} → ActionAt t (readAction (between t i e)) r → r ≡ Actions.Refused x
+          → Says t (sayUnrecognised (between t i e)) (Wrong x)
       unfolding sayUnrecognised asSaying withAction asParsedAction
       unrecognised-wrong g q = record { is = rw (some-between t i e h l, not-refuse, not-pass, sym (g .is), q); held = tt }
 
@@ -147,7 +148,7 @@ module _ (t : Text) (i e : ℕ) where
 
 -- a rule's action, then its path
 module _ (t w s : Text) where
-  pub rule-wrong : {r : ParsedAction} → ActionAt t (readAction s) r → r ≡ Actions.BadAction → Says t (sayRule w s) (Wrong BadAction)
+  pub rule-wrong : {r : ParsedAction} {x : Refusal} → ActionAt t (readAction s) r → r ≡ Actions.Refused x → Says t (sayRule w s) (Wrong x)
   unfolding sayRule asSaying withAction asParsedAction
   rule-wrong g q = record { is = rw (sym (g .is), q); held = tt }
 

@@ -6,7 +6,7 @@ use Rattle.text.specs.Text.{Text, between}
 use Rattle.er7.specs.Path.{Path, asPath, PathHeld}
 use Rattle.er7.specs.declared.path.ParsedPath.{ParsedPath}
 use Rattle.er7.specs.declared.path.ParsedPath.the-variants as Paths
-use Rattle.er7_redact.specs.Action.{Action, asAction, ActionHeld}
+use Rattle.er7_redact.specs.Action.{ActionRead, is-action, no-action, asAction, ActionHeld}
 use Rattle.er7_redact.specs.declared.action.Action.{Action as HeldAction}
 use Rattle.er7_redact.specs.declared.action.ParsedAction.{ParsedAction}
 use Rattle.er7_redact.specs.declared.action.ParsedAction.the-variants as Actions
@@ -45,9 +45,9 @@ asSaying t (Sayings.Unrecognised u) = unrecognised (asUnrecognised t u)
 asSaying t (Sayings.Sweep b) = sweep b
 asSaying t (Sayings.Wrong e) = wrong e
 
-unfoldable pub asParsedAction : Text → ParsedAction → Option Action
-asParsedAction t (Actions.Parsed a) = some (asAction t a)
-asParsedAction t Actions.BadAction = none
+unfoldable pub asParsedAction : Text → ParsedAction → ActionRead
+asParsedAction t (Actions.Parsed a) = is-action (asAction t a)
+asParsedAction t (Actions.Refused e) = no-action e
 
 unfoldable pub asParsedPath : Text → ParsedPath → Option Path
 asParsedPath t (Paths.Parsed p) = some (asPath t p)
@@ -78,7 +78,7 @@ SayingHeld t (Sayings.Wrong e) = Unit {0}
 
 abbrev pub ParsedActionHeld : Text → ParsedAction → Type 0
 ParsedActionHeld t (Actions.Parsed a) = ActionHeld t a
-ParsedActionHeld t Actions.BadAction = Unit {0}
+ParsedActionHeld t (Actions.Refused e) = Unit {0}
 
 abbrev pub ParsedPathHeld : Text → ParsedPath → Type 0
 ParsedPathHeld t (Paths.Parsed p) = PathHeld t p
@@ -96,7 +96,7 @@ pub record Applying (a : HeldAction) (r : HeldUnrecognised) : Type 0 where
   pub held : (t : Text) → ActionHeld t a → UnrecognisedHeld t r
 
 -- r is the action, the path, or the saying, that was read from the text t
-pub record ActionAt (t : Text) (a : Option Action) (r : ParsedAction) : Type 0 where
+pub record ActionAt (t : Text) (a : ActionRead) (r : ParsedAction) : Type 0 where
   pub is : asParsedAction t r ≡ a
   pub held : ParsedActionHeld t r
 

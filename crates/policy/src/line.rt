@@ -136,7 +136,7 @@ fn say_reject(text: &[u8], i: usize, e: usize) -> Saying
     }
     match action_at(text, i, e) {
         ParsedAction::Parsed(a) => Saying::Posture(rejecting(a)),
-        ParsedAction::BadAction => Saying::Wrong(Refusal::BadAction),
+        ParsedAction::Refused(refusal) => Saying::Wrong(refusal),
     }
 }
 
@@ -156,7 +156,7 @@ fn say_unrecognised(text: &[u8], i: usize, e: usize) -> Saying
     }
     match action_at(text, i, e) {
         ParsedAction::Parsed(a) => Saying::Unrecognised(applying(a)),
-        ParsedAction::BadAction => Saying::Wrong(Refusal::BadAction),
+        ParsedAction::Refused(refusal) => Saying::Wrong(refusal),
     }
 }
 
@@ -192,8 +192,8 @@ fn say_rule(text: &[u8], i: usize, m: usize, k: usize, e: usize) -> Saying
 {
     match action_at(text, k, e) {
         ParsedAction::Parsed(a) => with_path(text, i, m, a),
-        ParsedAction::BadAction => {
-            return Saying::Wrong(Refusal::BadAction);
+        ParsedAction::Refused(refusal) => {
+            return Saying::Wrong(refusal);
         }
     }
 }

@@ -13,8 +13,8 @@ use Rattle.text.proofs.Runs.{stop, stop-rest, all-append}
 use Rattle.text.proofs.Words.{same-eq, lower-length}
 use Rattle.text.proofs.Decimals.{length-u64, decimal-full}
 use Rattle.er7_redact.specs.declared.action.Verb.{Verb}
-use Rattle.er7_redact.specs.Action.{Action, keep, clear, null, pseudonym, replace, first, last, name, argument, verbWithArgument, verb, bare, readReplace, readMask, readArgument, readAction, printAction}
-use Rattle.er7_redact.proofs.ActionReadBack.{bare-from, count-from, action-read-back}
+use Rattle.er7_redact.specs.Action.{Action, ActionRead, is-action, no-action, keep, clear, null, pseudonym, replace, first, last, name, argument, verbWithArgument, verb, bare, readReplace, readMask, readArgument, readAction, printAction}
+use Rattle.er7_redact.proofs.ActionReadBack.{bare-from, count-from, IfRead, if-read, action-read-back}
 use Rattle.refusal.specs.Refusal.{isPlain}
 use Rattle.policy_model.specs.Policy.{notHash}
 use Rattle.policy_model.proofs.Texts.{all-rest, full-append, stop-append, ends, ends-append, ends-rest, blank-between}
@@ -84,9 +84,9 @@ module _ (s : Text) (g : Trimmed s) (l : length s ≤ 80) where
   bare-fits : (a : Action) → GoodWord (printAction a) → Maybe Fits (bare a (argument s))
   bare-fits a h = bare-from Fits a (argument s) (word-rest (printAction a) h)
 
-  action-fits : Maybe Fits (readAction s)
-  unfolding ByVerb readAction verb verbWithArgument readArgument argument name printAction bytes isEmpty stop isBlank notBlank all isWordByte isLineByte isPlain notHash
-  action-fits =
+  verb-fits : Maybe Fits (readArgument (verb (name s)) (argument s))
+  unfolding ByVerb verb verbWithArgument readArgument argument name printAction bytes isEmpty stop isBlank notBlank all isWordByte isLineByte isPlain notHash
+  verb-fits =
       by-cond ByVerb (isWord (name s) (bytes "keep")) _ _ (λ e. bare-fits keep (record { full = refl; bytes-fit = refl; short = omega arith })) λ e.
       by-cond ByVerb (isWord (name s) (bytes "clear")) _ _ (λ e. bare-fits clear (record { full = refl; bytes-fit = refl; short = omega arith })) λ e.
       by-cond ByVerb (isWord (name s) (bytes "null")) _ _ (λ e. bare-fits null (record { full = refl; bytes-fit = refl; short = omega arith })) λ e.
@@ -96,12 +96,13 @@ module _ (s : Text) (g : Trimmed s) (l : length s ≤ 80) where
       by-cond ByVerb (isWord (name s) (bytes "first")) _ _ (λ e. count-from Fits first (λ n h. count-fits (bytes "first ") refl refl refl n h (omega arith)) (argument s)) λ e.
       by-cond ByVerb (isWord (name s) (bytes "last")) _ _ (λ e. count-from Fits last (λ n h. count-fits (bytes "last ") refl refl refl n h (omega arith)) (argument s)) λ e. tt
 
-  pub action-good : Maybe GoodAction (readAction s)
-  action-good = go (readAction s) refl action-fits
+  pub action-good : IfRead GoodAction (readAction s)
+  unfolding readAction
+  action-good = go (readAction s) refl (if-read Fits (readArgument (verb (name s)) (argument s)) verb-fits)
     where
-      go : (o : Option Action) → readAction s ≡ o → Maybe Fits o → Maybe GoodAction o
-      go none e h = tt
-      go (some a) e h = record { rest-good = h; back = action-read-back s a e }
+      go : (o : ActionRead) → readAction s ≡ o → IfRead Fits o → IfRead GoodAction o
+      go (no-action x) e h = tt
+      go (is-action a) e h = record { rest-good = h; back = action-read-back s a e }
 
 pub redacted-good : GoodAction (replace (bytes "REDACTED"))
 unfolding readAction printAction bytes name argument verbWithArgument verb readArgument readReplace isWord same lower lowerByte isUpper run rest notBlank isBlank

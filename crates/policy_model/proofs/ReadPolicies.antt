@@ -13,7 +13,8 @@ use Rattle.text.proofs.Laws.{and-left, and-right, and-true, by-cond, Maybe}
 use Rattle.text.proofs.Runs.{stop-rest}
 use Rattle.er7.specs.Path.{Path, readPath}
 use Rattle.er7.proofs.PathReadBack.{PathFrom, path-from, path-read-back}
-use Rattle.er7_redact.specs.Action.{Action, kind, isKeep, isNullAction, readAction}
+use Rattle.er7_redact.specs.Action.{Action, ActionRead, is-action, no-action, kind, isKeep, isNullAction, readAction}
+use Rattle.er7_redact.proofs.ActionReadBack.{IfRead}
 use Rattle.er7_redact.specs.Policy.{accept, reject}
 use Rattle.refusal.specs.Refusal.{tooLong, isPlain}
 use Rattle.policy_model.specs.Policy.{pass, apply, Policy, start, rejecting, applying, Saying, nothing, wrong, Head, accept-head, reject-head, unrecognised-head, known-values-head, star-head, path-head, head, withAction, sayAccept, sayReject, sayUnrecognised, sayKnownValues, withPath, sayRule, says, judged, spoken, trim, notCR, notHash, saysLine, push, policyLines, PolicyRead, read, refused, withRules, told, readLines, beginsInLF, isPolicyText, readPolicy}
@@ -35,10 +36,10 @@ GoodSaying (Saying.unrecognised u) = GoodUnrecognised u
 GoodSaying (Saying.sweep b) = Unit {0}
 GoodSaying (wrong e) = Unit {0}
 
-action-says : (o : Option Action) (f : Action → Saying) → Maybe GoodAction o → ((a : Action) → GoodAction a → GoodSaying (f a)) → GoodSaying (withAction o f)
+action-says : (o : ActionRead) (f : Action → Saying) → IfRead GoodAction o → ((a : Action) → GoodAction a → GoodSaying (f a)) → GoodSaying (withAction o f)
 unfolding withAction
-action-says none f h k = tt
-action-says (some a) f h k = k a h
+action-says (no-action e) f h k = tt
+action-says (is-action a) f h k = k a h
 
 module _ (a : Action) (g : GoodAction a) where
   rejecting-good : GoodPosture (rejecting a)

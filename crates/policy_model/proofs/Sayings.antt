@@ -6,7 +6,7 @@ use Prim.Native.Nat.{ℕ, _≤_}
 use native.Mathlib.Omega.{arith}
 use Rattle.text.specs.Text.{bytes, isUpper, isBlank, notBlank, lowerByte, lower, same, isWord, isEmpty, run, rest, all}
 use Rattle.er7.specs.Path.{readPath, printPath}
-use Rattle.er7_redact.specs.Action.{Action, keep, clear, null, pseudonym, replace, mask, first, last, isKeep, isNullAction, readAction, printAction}
+use Rattle.er7_redact.specs.Action.{Action, is-action, keep, clear, null, pseudonym, replace, mask, first, last, isKeep, isNullAction, readAction, printAction}
 use Rattle.er7_redact.specs.Policy.{Rule, Posture, accept, reject}
 use Rattle.refusal.specs.Refusal.{isPlain}
 use Rattle.policy_model.specs.Policy.{Unrecognised, pass, refuse, apply, rejecting, applying, Saying, path-head, head, withAction, sayAccept, sayReject, sayUnrecognised, sayKnownValues, withPath, sayRule, says, judged, spoken, prepend, trimEnd, trim, notCR, notHash, saysLine, gap, column, ruleLine, postureLine, unrecognisedText, sweepText}
@@ -18,7 +18,7 @@ use Rattle.policy_model.proofs.Columns.{GoodWord, GoodRest, GoodLine, w
 -- an action that printing writes and reading reads back
 pub record GoodAction (a : Action) : Type 0 where
   pub rest-good : GoodRest (printAction a)
-  pub back : readAction (printAction a) ≡ some a
+  pub back : readAction (printAction a) ≡ is-action a
 
 pub record GoodRule (r : Rule) : Type 0 where
   pub word-good : GoodWord (printPath (r .path))

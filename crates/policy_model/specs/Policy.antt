@@ -5,12 +5,13 @@ use mathlib.Core.Option.{Option, none, some}
 use Prim.Native.Nat.{ℕ, suc, _-_, max}
 use lib.ListN.{length, replicate}
 use lib.Dec.{eqb, ltb}
-use Rattle.text.specs.Text.{Text, bytes, isBlank, notBlank, isWord, isEmpty, run, rest}
+use Rattle.text.specs.Text.{Text, bytes, isBlank, isWord, isEmpty, run, rest}
+use Rattle.text.specs.Characters.{skipBlanks, word, behindWord}
 use Rattle.er7.specs.Path.{Path, readPath, printPath}
-use Rattle.er7_redact.specs.Action.{Action, replace, isKeep, isNullAction, readAction, printAction}
+use Rattle.er7_redact.specs.Action.{Action, ActionRead, is-action, no-action, replace, isKeep, isNullAction, readAction, printAction}
 use Rattle.er7_redact.specs.Policy.{Rule, Posture, accept, reject}
 use Rattle.refusal.specs.declared.Refusal.{Refusal}
-use Rattle.refusal.specs.declared.Refusal.the-variants.{TooLong, ForeignByte, TooMany, BadAction, BadPath, BadDirective}
+use Rattle.refusal.specs.declared.Refusal.the-variants.{TooLong, ForeignByte, TooMany, BadPath, BadDirective}
 use Rattle.refusal.specs.Refusal.{tooLong, isPlain}
 
 -- what a payload gets: it passes, gets an action, or is refused
@@ -60,9 +61,9 @@ head w =
     (cond (isWord w (bytes "*")) star-head path-head))))
 
 -- "missing or unreadable, in a rule or directive"
-unfoldable pub withAction : Option Action → (Action → Saying) → Saying
-withAction none f = wrong BadAction
-withAction (some a) f = f a
+unfoldable pub withAction : ActionRead → (Action → Saying) → Saying
+withAction (no-action e) f = wrong e
+withAction (is-action a) f = f a
 
 -- "argument to accept"
 unfoldable pub sayAccept : Text → Saying
@@ -110,7 +111,7 @@ judged w s = cond (ltb 64 (length w) || ltb 80 (length s)) (wrong TooMany) (says
 -- "word and rest are each taken without comment, outer blanks and tabs"
 unfoldable pub spoken : Text → Saying
 spoken [] = nothing
-spoken (x ∷ s) = judged (run notBlank (x ∷ s)) (rest isBlank (rest notBlank (x ∷ s)))
+spoken (x ∷ s) = judged (word (x ∷ s)) (skipBlanks (behindWord (x ∷ s)))
 
 unfoldable pub prepend : ℕ → Text → Text
 prepend x [] = cond (isBlank x) [] (x ∷ [])
@@ -122,7 +123,7 @@ trimEnd [] = []
 trimEnd (x ∷ s) = prepend x (trimEnd s)
 
 unfoldable pub trim : Text → Text
-trim s = trimEnd (rest isBlank s)
+trim s = trimEnd (skipBlanks s)
 
 unfoldable pub notCR : ℕ → Bool
 notCR x = not (eqb x 0x0d)

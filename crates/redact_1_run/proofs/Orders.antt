@@ -10,8 +10,7 @@ use Rattle.text.specs.Text.{Text}
 use Rattle.text.proofs.Laws.{split}
 use Rattle.er7.specs.declared.message.Place.{Place}
 use Rattle.message_model.specs.Message.{Leaf, leaf, Label, atField}
-use Rattle.message_model.proofs.Places.{Step, a-field, a-repetition, a-component, a-subcomponent, nextStep, Chain}
-use Rattle.message_model.proofs.Messages.{Chained}
+use Rattle.message_model.specs.Chain.{Piece, a-field, a-repetition, a-component, a-subcomponent, nextPlace, Chain, Chained}
 use Rattle.er7_table.specs.Table.{cell, listOf, placeAt, textAt, leafAt, firstLeaf, labelAt}
 use Rattle.redact_4_leaf.specs.Walk.{segmentOf}
 use Rattle.redact_4_leaf.specs.State.{Buffers, leaves, marked}
@@ -26,13 +25,13 @@ record Stepped (p q : Place) (o : Option Text) (xs : List Leaf) : Type 0 where
   rest : Chain place xs
   live : (t : Text) → o ≡ some t → place ≡ q
 
-step-low : (k : Step) (p : Place) → p .field ≤ nextStep k p .field
+step-low : (k : Piece) (p : Place) → p .field ≤ nextPlace k p .field
 step-low a-field p = omega arith
 step-low a-repetition p = omega arith
 step-low a-component p = omega arith
 step-low a-subcomponent p = omega arith
 
-step-high : (k : Step) (p : Place) → nextStep k p .field ≤ p .field + 1
+step-high : (k : Piece) (p : Place) → nextPlace k p .field ≤ p .field + 1
 step-high a-field p = omega arith
 step-high a-repetition p = omega arith
 step-high a-component p = omega arith

@@ -12,9 +12,10 @@ use Rattle.er7.specs.declared.separators.Separators.{Separators}
 use Rattle.er7_redact.specs.Action.{Action, asAction}
 use Rattle.er7_redact.specs.Policy.{Rule, asRule, reject}
 use Rattle.message_model.specs.Message.{Segment, printSegments}
-use Rattle.message_model.proofs.Messages.{Chained}
+use Rattle.message_model.specs.Chain.{Chained}
+use Rattle.run_model.specs.Order.{FieldsFirst}
 use Rattle.run_model.specs.Redact.{Known, Row, Book, running, stopped, knownIn, bookAll, overSegments, segmentsEvents, forPosture, forSweep, afterRule}
-use Rattle.run_model.proofs.Chains.{FieldsFirst, rule-chained, rule-fields-first, unnamed-chained, unnamed-fields-first}
+use Rattle.run_model.proofs.Chains.{rule-chained, rule-fields-first, unnamed-chained, unnamed-fields-first}
 use Rattle.run_model.proofs.Sizes.{Moves, rule-sizes, unnamed-sizes, book-size}
 use Rattle.er7_table.specs.Table.{listOf, firstLeaf, labelAt, Segmented}
 use Rattle.redact_5_act.specs.declared.state.Setting.{Setting}

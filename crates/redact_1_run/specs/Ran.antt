@@ -5,10 +5,10 @@ use Prim.Native.Nat.{ℕ, _≤_, _<_}
 use lib.ListN.{length}
 use Rattle.text.specs.Text.{Text, Wrote}
 use Rattle.message_model.specs.Message.{Message, printMessage}
-use Rattle.message_model.proofs.Messages.{Chained}
+use Rattle.message_model.specs.Chain.{Chained}
+use Rattle.run_model.specs.Order.{FieldsFirst}
 use Rattle.run_model.specs.Redact as R
 use Rattle.run_model.specs.Redact.{Row}
-use Rattle.run_model.proofs.Chains.{FieldsFirst}
 use Rattle.er7_table.specs.Table.{Good, Segmented, AllNamed}
 use Rattle.er7_message.specs.Parsed.{Standing}
 use Rattle.er7_message.specs.declared.message.Counts.{Counts}

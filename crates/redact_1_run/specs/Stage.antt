@@ -6,9 +6,9 @@ use Prim.Native.Nat.{ℕ, _+_, _*_, _≤_, _^_}
 use lib.ListN.{length}
 use Rattle.text.specs.Text.{Text}
 use Rattle.message_model.specs.Message.{Segment, printSegments}
-use Rattle.message_model.proofs.Messages.{Chained}
+use Rattle.message_model.specs.Chain.{Chained}
+use Rattle.run_model.specs.Order.{FieldsFirst}
 use Rattle.run_model.specs.Redact.{Known, Book, stopped}
-use Rattle.run_model.proofs.Chains.{FieldsFirst}
 use Rattle.er7_table.specs.Table.{listOf, firstLeaf, labelAt, Good, Segmented, AllNamed}
 use Rattle.er7_render.specs.Stored.{liveSum, RoomMade}
 use Rattle.redact_5_act.specs.declared.state.Setting.{Setting}

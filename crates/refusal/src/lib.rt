@@ -2,21 +2,35 @@
 ghost use mathlib.Core.Path.{_≡_};
 ghost use Rattle.refusal.specs.Refusal as R;
 
-// Why a call is refused.
+// Why a call is refused, each with its number and its word in the table of refusals.
 pub enum Refusal {
+    // 1, short bench
     ShortBuffer,
+    // 2, long
     TooLong,
+    // 3, foreign
     ForeignByte,
+    // 4, headless
     BadHeader,
+    // 5, bad segment
     BadSegment,
+    // 6, crowded
     TooMany,
+    // 7, bad action
     BadAction,
+    // 8, bad path
     BadPath,
+    // 9, bad directive
     BadDirective,
+    // 10, learnt full
     TooMuchLearnt,
+    // 11, swollen
     MessageTooLong,
+    // 12, report full
     ReportTooLong,
+    // 13, withheld
     Withheld,
+    // 14, no such built-in
     NoSuchBuiltin,
 }
 

@@ -16,9 +16,10 @@ use Rattle.er7.specs.declared.separators.Separators.{Separators}
 use Rattle.er7_redact.specs.Action.{Action, isNullAction}
 use Rattle.er7_redact.specs.Policy.{Rule}
 use Rattle.message_model.specs.Message.{Leaf, leaf, Label, Segment, segment, endsLeaf, next, leaves, leavesBehind, atField, leavesOf, isNamed, segments, messageOf, segmentsFault, messageFault, touchable}
-use Rattle.message_model.proofs.Places.{Step, a-field, a-repetition, a-component, a-subcomponent, nextStep, Positive, positive-field, positive-step, Chain}
+use Rattle.message_model.proofs.Places.{Positive, positive-field, positive-piece}
 use Rattle.message_model.proofs.Faultless.{three, named-line, faultless-lines, faultless, segments-are}
-use Rattle.message_model.proofs.Messages.{Chained}
+use Rattle.message_model.specs.Chain.{Piece, a-field, a-repetition, a-component, a-subcomponent, nextPlace, Chain, Chained}
+use Rattle.run_model.specs.Order.{FieldFirst, FieldsFirst}
 use Rattle.run_model.specs.Redact.{fits, reaches, covers, Depth, by-field, by-repetition, by-component, Reach, each-leaf, each-node, depth, reach, isNode, starts, Fate, stays, vanishes, becomes, after, fate, ruleLeaf, isUnnamed, actOr, unnamedLeaf, overLeaves, overSegments, afterRule}
 use Rattle.run_model.proofs.InStep.{isGone, vanishing, act-gone, fateIn-gone}
 
@@ -32,7 +33,7 @@ nodePlace by-component p = record { field = p .field; repetition = p .repetition
 
 -- q stands next to p
 abbrev pub Next : Place → Place → Type 0
-Next p q = (k : Step) × (q ≡ nextStep k p)
+Next p q = (k : Piece) × (q ≡ nextPlace k p)
 
 -- the place q that is next to p is in the node of p, or begins the next node
 data NextNode (d : Depth) (p q : Place) : Type 0 where
@@ -42,7 +43,7 @@ data NextNode (d : Depth) (p q : Place) : Type 0 where
 not-one : (n : ℕ) → 1 ≤ n → eqb (n + 1) 1 ≡ false
 not-one n h = ne-eqb (n + 1) 1 (λ e. omega arith)
 
-next-is : (d : Depth) (k : Step) (p : Place) → Positive p → NextNode d p (nextStep k p)
+next-is : (d : Depth) (k : Piece) (p : Place) → Positive p → NextNode d p (nextPlace k p)
 unfolding starts
 next-is by-field a-field p h = new-node refl (a-field, refl) refl
 next-is by-field a-repetition p h = same-node (rw (not-one (p .repetition) (h .repetition))) refl
@@ -61,7 +62,7 @@ next-node : (d : Depth) (p q : Place) → Positive p → Next p q → NextNode d
 next-node d p q h (k, e) = rw e (next-is d k p h)
 
 pub positive-at : (p q : Place) → Positive p → Next p q → Positive q
-positive-at p q h (k, e) = rw e (positive-step k p h)
+positive-at p q h (k, e) = rw e (positive-piece k p h)
 
 -- ---- a rule that collapses nodes covers all of a node or none of it
 
@@ -127,12 +128,6 @@ after-gone vanishes t e = refl
 gone-is : (b v : Bool) (F : Fate) → isGone F ≡ v → isGone (cond b F stays) ≡ b && v
 gone-is true v F e = e
 gone-is false v F e = refl
-
--- the first leaf that has not vanished, if there is one, begins a field
-abbrev pub FieldFirst : List Leaf → Type 0
-FieldFirst [] = Unit {0}
-FieldFirst (leaf p n none ∷ xs) = FieldFirst xs
-FieldFirst (leaf p n (some t) ∷ xs) = starts by-field p ≡ true
 
 pub field-starts : (d : Depth) (p : Place) → starts by-field p ≡ true → starts d p ≡ true
 unfolding starts
@@ -245,11 +240,6 @@ module _ (key : ℕ) (s : Separators) (f : Text → Option Action) (g : Label) w
       }
 
 -- ---- segments
-
--- each segment's first leaf, if it has one, begins a field
-abbrev pub FieldsFirst : List Segment → Type 0
-FieldsFirst [] = Unit {0}
-FieldsFirst (segment g xs ∷ ss) = FieldFirst xs × FieldsFirst ss
 
 module _ (f : Label → Leaf → List Leaf → Leaf) where
   over-chained : ((g : Label) (xs : List Leaf) → Chain (atField 0) xs → Chain (atField 0) (overLeaves f g xs)) → (ss : List Segment)

@@ -17,14 +17,16 @@ use Rattle.er7_redact.specs.Policy.{Rule}
 use Rattle.refusal.specs.Refusal.{tooLong}
 use Rattle.message_model.specs.Message.{Leaf, leaf, Label, Segment, segment, atField, messageOf, messageFault, touchable, lead, printLeaves, printSegments, printMessage}
 use Rattle.message_model.specs.Value.{NULL, isNull, isEmptyOrNull, value}
-use Rattle.message_model.proofs.Places.{Positive, positive-field, Chain}
+use Rattle.message_model.proofs.Places.{Positive, positive-field}
 use Rattle.message_model.proofs.Faultless.{faultless}
-use Rattle.message_model.proofs.Messages.{Chained, message-chains}
+use Rattle.message_model.proofs.Messages.{message-chains}
 use Rattle.message_model.proofs.PrintBack.{message-prints}
+use Rattle.message_model.specs.Chain.{Chain, Chained}
+use Rattle.run_model.specs.Order.{FieldFirst, FieldsFirst}
 use Rattle.policy_model.specs.Policy.{Policy}
 use Rattle.run_model.specs.Redact.{reaches, covers, Depth, Reach, each-leaf, each-node, reach, starts, restOfNode, Fate, stays, vanishes, becomes, after, act, isNil, collapse, fateIn, fate, Row, row, Event, learn, change, changing, learning, took, size, ruleLeaf, ruleEvents, isUnnamed, actOr, unnamedLeaf, changingOr, unnamedEvents, overLeaves, overSegments, leavesEvents, segmentsEvents, Known, Book, running, stopped, knows, knownBytes, booked, bookAll, afterRule, afterRules, rulesEvents, forPosture, forSweep, beforeSweep, eventsBeforeSweep, bookBeforeSweep, done, redactedAs, swept, redactFrom, redact}
 use Rattle.run_model.proofs.InStep.{isGone, act-gone}
-use Rattle.run_model.proofs.Chains.{positive-at, covers-next, FieldFirst, field-starts, cond-both, rule-live, FieldsFirst, rule-chained, rule-fields-first, message-fields-first}
+use Rattle.run_model.proofs.Chains.{positive-at, covers-next, field-starts, cond-both, rule-live, rule-chained, rule-fields-first, message-fields-first}
 
 -- ---- what events do to a size
 

@@ -8,6 +8,7 @@ use Prim.Native.Nat.{ℕ, zero, suc}
 use lib.Dec.{T}
 use lib.ListN.{take}
 use Rattle.text.specs.Text.{Text, lower}
+use Rattle.text.specs.Characters.{lowerText}
 use Rattle.er7.specs.declared.message.Place.{Place}
 use Rattle.er7.specs.declared.separators.Separators.{Separators}
 use Rattle.er7_redact.specs.Action.{Action, isKeep}
@@ -77,7 +78,7 @@ Learnt key s rs ss v = (a : Action) × List·Memᴰ (learn v a) (rulesEvents key
 -- "Unnamed leaves are those not named that may be touched, with the text that rules and posture left them"
 abbrev pub NotIn : Separators → Text → Label → Leaf → Type 0
 NotIn s v g (leaf p n none) = Unit {0}
-NotIn s v g (leaf p n (some t)) = T (isUnnamed g p n) → T (not (isWholeWord v (lower (value s t))))
+NotIn s v g (leaf p n (some t)) = T (isUnnamed g p n) → T (not (isWholeWord v (lowerText (value s t))))
 
 abbrev pub NotInLeaves : Separators → Text → Label → List Leaf → Type 0
 NotInLeaves s v g [] = Unit {0}

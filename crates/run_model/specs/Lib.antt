@@ -3,3 +3,4 @@ pub mod Entries
 pub mod Table
 pub mod Demand
 pub mod Counts
+pub mod Order

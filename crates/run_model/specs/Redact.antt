@@ -7,6 +7,7 @@ use Prim.Native.Nat.{ℕ, _+_, _-_}
 use lib.ListN.{length}
 use lib.Dec.{eqb, leb, ltb}
 use Rattle.text.specs.Text.{Text, lower, same}
+use Rattle.text.specs.Characters.{charCount, lowerText}
 use Rattle.er7.specs.Path.{Path, printPath}
 use Rattle.er7.specs.declared.message.Place.{Place}
 use Rattle.er7.specs.declared.separators.Separators.{Separators}
@@ -145,9 +146,9 @@ changing ρ went vanishes = []
 unfoldable pub learning : Separators → Action → List Text → List Event
 learning s a [] = []
 learning s a (t ∷ ts) =
-    let v = lower (value s t) in
+    let v = lowerText (value s t) in
     let more = learning s a ts in
-    cond (isKeep a || isEmptyOrNull t || ltb (length v) 3) more (learn v a ∷ more)
+    cond (isKeep a || isEmptyOrNull t || ltb (charCount v) 3) more (learn v a ∷ more)
 
 -- the texts that a leaf answers for: its own; the whole node's, if it is a node's first; none, if it is another of a node
 unfoldable pub took : Reach → Place → Text → List Leaf → List Text
@@ -270,7 +271,7 @@ firstFound [] v = none
 firstFound (k ∷ ks) v = cond (isWholeWord (k .value) v) (some (k .action)) (firstFound ks v)
 
 unfoldable pub forSweep : Separators → List Known → Text → Option Action
-forSweep s ks t = cond (isEmptyOrNull t) none (firstFound ks (lower (value s t)))
+forSweep s ks t = cond (isEmptyOrNull t) none (firstFound ks (lowerText (value s t)))
 
 -- the segments when the sweep starts, what was said by then, and the book
 unfoldable pub beforeSweep : ℕ → Separators → Policy → List Segment → List Segment

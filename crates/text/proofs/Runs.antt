@@ -1,8 +1,8 @@
 -- Laws of runs. Assumes nothing.
 use mathlib.Core.Path.{_≡_, refl, sym, ap, _∙_}
-use mathlib.Core.Bool.{Bool, true, false, cond, not}
+use mathlib.Core.Bool.{Bool, true, false, not}
 use mathlib.Core.List.{[], _∷_, _++_, append-nil, append-assoc}
-use Prim.Native.Nat.{ℕ, suc, _+_, _-_, _≤_, _<_}
+use Prim.Native.Nat.{ℕ, _+_, _-_, _≤_, _<_}
 use native.Mathlib.Nat.{sub-self, add-sub-cancel-left}
 use native.Mathlib.Numerals.{add-one}
 use native.Mathlib.Omega.{arith}
@@ -10,8 +10,7 @@ use borrow.Author.Tests.{not-true}
 use lib.Dec.{eqb}
 use lib.ListN.{length, take, drop, getD, length-append, length-take, length-drop, drop-of-length-le}
 use lib.Seq.{drop-cons, take-all, take-suc, take-take, take-add, drop-at, drop-drop, getD-drop}
-use Rattle.text.specs.declared.bytes.Class.the-variants.{AllBut}
-use Rattle.text.specs.Text.{Text, isIn, find, run, rest, part, between, RunEnd, RunTo, all}
+use Rattle.text.specs.Text.{Text, run, rest, part, between, RunEnd, RunTo, all}
 use Rattle.text.proofs.Laws.{and-left, and-right, and-true, by-cond}
 
 -- the next byte of what is left
@@ -82,22 +81,6 @@ running-stop {p} {s} {i} {j} g h e = running-done g (run-no p s j h e) (rest-no 
 
 pub running-end : {p : ℕ → Bool} {s : Text} {i j : ℕ} → Running p s i j → length s ≤ j → RunEnd p s i j
 running-end {p} {s} {i} {j} g h = running-done g (run-none p s j h) (rest-none p s j h)
-
--- what `find` finds is where the run of other bytes ends
-find-run : (b : ℕ) (s : Text) → find b s ≡ length (run (isIn (AllBut b)) s)
-unfolding find run isIn
-find-run b [] = refl
-find-run b (x ∷ s) = go (eqb x b) (find-run b s)
-  where
-    go : (t : Bool) → find b s ≡ length (run (isIn (AllBut b)) s) → cond t 0 (suc (find b s)) ≡ length (cond (not t) (x ∷ run (isIn (AllBut b)) s) [])
-    go true ih = refl
-    go false ih = ap suc ih
-
-pub find-end : (b : ℕ) {s : Text} {r : ℕ} → RunEnd (isIn (AllBut b)) s 0 r → r ≡ find b s
-unfolding part
-find-end b {s} {r} g =
-    let l : length (take (r - 0) s) ≡ r = simp length-take (omega (arith, g .high)) in
-    sym l ∙ ap length (g .run-is) ∙ sym (find-run b s)
 
 -- ---- a run that is known
 

@@ -1,3 +1,4 @@
 pub mod Text
+pub mod Characters
 pub mod Number
 pub mod Inner

@@ -71,11 +71,6 @@ unfoldable pub isEmpty : Text → Bool
 isEmpty [] = true
 isEmpty (x ∷ s) = false
 
--- the index of the first b in s, or the length of s
-unfoldable pub find : ℕ → Text → ℕ
-find b [] = 0
-find b (x ∷ s) = cond (eqb x b) 0 (suc (find b s))
-
 -- the longest run at the front of which p holds, and what stands behind it
 unfoldable pub run : (ℕ → Bool) → Text → Text
 run p [] = []

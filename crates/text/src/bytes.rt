@@ -3,7 +3,7 @@ ghost use mathlib.Core.Path.{_≡_};
 ghost use mathlib.Core.List.{[], _∷_};
 ghost use Prim.Native.Nat.{_+_, _≤_, _<_};
 ghost use lib.ListN.{length, replicate};
-ghost use Rattle.text.specs.Text.{isIn, lowerByte, same, isWord, find, RunEnd, RunTo, Wrote, zeroed};
+ghost use Rattle.text.specs.Text.{isIn, lowerByte, same, isWord, RunEnd, RunTo, Wrote, zeroed};
 
 // Sets of bytes: digits, letters and digits, blanks and tabs, all but these, all but one byte.
 pub enum Class {
@@ -60,13 +60,6 @@ pub fn run_to(s: &[u8], i: usize, e: usize, class: Class) -> usize
     ensures { λ r. ⌜ RunTo (isIn class) (now (s .entry)) i e r ⌝ }
 {
     i + run_end(&s[i..e], 0, class)
-}
-
-// The index of the first b in s, or the length of s.
-pub fn find_byte(s: &[u8], b: u8) -> usize
-    ensures { λ r. ⌜ r ≡ find b (now (s .entry)) ⌝ }
-{
-    run_end(s, 0, Class::AllBut(b))
 }
 
 // Whether two texts are the same.

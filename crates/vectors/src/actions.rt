@@ -15,7 +15,7 @@ pub fn action(a: &[u8], got: &mut Page) -> usize {
             }
             action::print(p, a, got, 0)
         }
-        ParsedAction::BadAction => put(b"refused", got, 0),
+        ParsedAction::Refused(_) => put(b"refused", got, 0),
     }
 }
 
@@ -32,6 +32,6 @@ pub fn apply(a: &[u8], b: &[u8], c: &[u8], got: &mut Page) -> usize {
             Applied::Written(_) => action::apply(p, a, number(b), c, got, 0),
             Applied::Nothing => put(b"nothing", got, 0),
         },
-        ParsedAction::BadAction => put(b"refused", got, 0),
+        ParsedAction::Refused(_) => put(b"refused", got, 0),
     }
 }

@@ -18,14 +18,14 @@ enum-known-a c = search needs
 rejecting-requires : tie.Need-rejecting-requires
 rejecting-requires c κs = search needs
 
-enum-told : tie.Need-enum-told
-enum-told c = search needs
+enum-known-refusal : tie.Need-enum-known-refusal
+enum-known-refusal c = search needs
 
 returns-2 : tie.Need-returns-2
 returns-2 c = reject-right _ _ _ (omega arith) (omega arith) (c .before .before .before .before .action-at .ensures) (c .before .before .a .given .1) (c .rejecting .ensures)
 
 returns-3 : tie.Need-returns-3
-returns-3 c = reject-wrong _ _ _ (omega arith) (omega arith) (c .before .before .action-at .ensures) (c .enum-told .given .1)
+returns-3 c = reject-wrong _ _ _ (omega arith) (omega arith) (c .before .before .before .action-at .ensures) (c .before .refusal .given .1)
 
 pub say-reject-spec : {M : Type 1} → statement M
 say-reject-spec =
@@ -35,6 +35,6 @@ say-reject-spec =
     action-at-requires
     enum-known-a
     rejecting-requires
-    enum-told
+    enum-known-refusal
     returns-2
     returns-3)

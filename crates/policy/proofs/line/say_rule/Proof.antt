@@ -17,11 +17,11 @@ enum-known-a c = search needs
 with-path-requires : tie.Need-with-path-requires
 with-path-requires c κs = (omega arith, omega arith, subst (ParsedActionHeld (c .before .before .before .before .before .args .text .now)) (c .before .a .given .1) (c .before .before .before .action-at .ensures .held))
 
-enum-told : tie.Need-enum-told
-enum-told c = search needs
+enum-known-refusal : tie.Need-enum-known-refusal
+enum-known-refusal c = search needs
 
 returns : tie.Need-returns
-returns c = rule-wrong _ _ _ (c .before .before .action-at .ensures) (c .enum-told .given .1)
+returns c = rule-wrong _ _ _ (c .before .before .before .action-at .ensures) (c .before .refusal .given .1)
 
 returns-2 : tie.Need-returns-2
 returns-2 c = rule-right _ _ _ (c .before .before .before .before .action-at .ensures) (c .before .before .a .given .1) (c .with-path .ensures)
@@ -29,4 +29,4 @@ returns-2 c = rule-right _ _ _ (c .before .before .before .before .action-at .en
 pub say-rule-spec : {M : Type 1} → statement M
 say-rule-spec =
     tie.close
-    (tie.spec action-at-requires enum-known-a with-path-requires enum-told returns returns-2)
+    (tie.spec action-at-requires enum-known-a with-path-requires enum-known-refusal returns returns-2)

@@ -58,8 +58,8 @@ enum-known-a c = search needs
 applying-requires : tie.Need-applying-requires
 applying-requires c κs = search needs
 
-enum-told : tie.Need-enum-told
-enum-told c = search needs
+enum-known-refusal : tie.Need-enum-known-refusal
+enum-known-refusal c = search needs
 
 returns-4 : tie.Need-returns-4
 unfolding bytes between
@@ -67,7 +67,7 @@ returns-4 c = unrecognised-right (c .before .before .before .before .before .bef
 
 returns-5 : tie.Need-returns-5
 unfolding bytes between
-returns-5 c = unrecognised-wrong (c .before .before .before .before .before .before .before .before .before .before .before .before .before .args .text .now) (c .before .before .before .before .before .before .before .before .before .before .before .before .before .args .i) (c .before .before .before .before .before .before .before .before .before .before .before .before .before .args .e) (omega arith) (omega arith) (sym (c .before .before .before .before .before .before .before .before .is-word .ensures) ∙ c .before .before .before .before .before .before .before .if2 .left) (sym (c .before .before .before .before .is-word2 .ensures) ∙ c .before .before .before .if3 .left) (c .before .before .action-at .ensures) (c .enum-told .given .1)
+returns-5 c = unrecognised-wrong (c .before .before .before .before .before .before .before .before .before .before .before .before .before .before .args .text .now) (c .before .before .before .before .before .before .before .before .before .before .before .before .before .before .args .i) (c .before .before .before .before .before .before .before .before .before .before .before .before .before .before .args .e) (omega arith) (omega arith) (sym (c .before .before .before .before .before .before .before .before .before .is-word .ensures) ∙ c .before .before .before .before .before .before .before .before .if2 .left) (sym (c .before .before .before .before .before .is-word2 .ensures) ∙ c .before .before .before .before .if3 .left) (c .before .before .before .action-at .ensures) (c .before .refusal .given .1)
 
 pub say-unrecognised-spec : {M : Type 1} → statement M
 say-unrecognised-spec =
@@ -89,6 +89,6 @@ say-unrecognised-spec =
     action-at-requires
     enum-known-a
     applying-requires
-    enum-told
+    enum-known-refusal
     returns-4
     returns-5)
