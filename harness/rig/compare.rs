@@ -6,9 +6,9 @@ mod model;
 mod oracle;
 mod reader;
 
-use gateway::{Bench, Entry, Lengths, Outcome};
+use gateway::{Caller, Entry, Lengths, Outcome};
 use make::Random;
-use model::BENCH;
+use model::LEAST;
 use std::time::Instant;
 
 /// How long the report's buffer is: a number, or the report's own length and a bit.
@@ -29,10 +29,10 @@ struct Case {
 
 fn lengths(r: &mut Random) -> (usize, usize, Report) {
     let one = |r: &mut Random| match r.below(40) {
-        0 => BENCH - 1,
-        1 => r.below(BENCH),
-        2..=12 => BENCH,
-        _ => BENCH + r.below(300),
+        0 => LEAST - 1,
+        1 => r.below(LEAST),
+        2..=12 => LEAST,
+        _ => LEAST + r.below(300),
     };
     let report = match r.below(10) {
         0 => Report::Of(0),
@@ -47,7 +47,7 @@ fn lengths(r: &mut Random) -> (usize, usize, Report) {
 }
 
 struct Rig {
-    bench: Bench,
+    caller: Caller,
     numbers: [u64; 15],
     calls: u64,
     smallest: Option<(Case, String)>,
@@ -71,7 +71,7 @@ impl Rig {
         if let Report::Of(n) = case.report {
             lengths.report = n;
         }
-        let expected = if case.output < BENCH || case.scratch < BENCH {
+        let expected = if case.output < LEAST || case.scratch < LEAST {
             Outcome::refused(1, 0)
         } else {
             match oracle::expected(&case.entry) {
@@ -84,7 +84,7 @@ impl Rig {
                 }
             }
         };
-        (expected.number, self.bench.differs(&case.entry, lengths, case.seed, &expected))
+        (expected.number, self.caller.differs(&case.entry, lengths, case.seed, &expected))
     }
 
     fn run(&mut self, case: Case) {
@@ -167,12 +167,12 @@ fn main() {
     let mut arguments = std::env::args().skip(1).map(|a| a.parse::<u64>().expect("a number"));
     let seed = arguments.next().unwrap_or(1);
     let count = arguments.next().unwrap_or(200_000);
-    let mut rig = Rig { bench: Bench::new(), numbers: [0; 15], calls: 0, smallest: None, differing: 0 };
+    let mut rig = Rig { caller: Caller::new(), numbers: [0; 15], calls: 0, smallest: None, differing: 0 };
     let mut r = Random(seed);
     make::short_inputs(|entry| {
         let (output, scratch, report) = lengths(&mut r);
         // Short buffers only now and then: every short input is to be judged.
-        let (output, scratch) = (output.max(BENCH), scratch.max(BENCH));
+        let (output, scratch) = (output.max(LEAST), scratch.max(LEAST));
         let report = if let Report::Of(n) = report { Report::Of(n.max(400)) } else { report };
         rig.run(Case { entry, output, scratch, report, seed: r.next() });
     });

@@ -5,7 +5,7 @@ mod gateway;
 mod make;
 mod model;
 
-use gateway::Bench;
+use gateway::Caller;
 use make::Random;
 use model::{Action, Message, Path, Place, Policy, Rule, Run};
 
@@ -129,7 +129,7 @@ fn main() {
     let mut arguments = std::env::args().skip(1).map(|a| a.parse::<u64>().expect("a number"));
     let seed = arguments.next().unwrap_or(1);
     let count = arguments.next().unwrap_or(100_000);
-    let mut bench = Bench::new();
+    let mut caller = Caller::new();
     let (mut pairs, mut held, mut with_sweep, mut apart, mut failures) = (0_u64, 0_u64, 0_u64, 0_u64, 0_u64);
     let mut smallest: Option<(usize, String)> = None;
     let mut r = Random(seed);
@@ -159,7 +159,7 @@ fn main() {
             && accepted(&b)
             && settled(&a, &b, &policy, key)
             && (!policy.sweep || (unswept(&a, &policy, key) && unswept(&b, &policy, key)));
-        let (one, two) = (bench.redacted(&first, text.as_bytes(), key, r.next()), bench.redacted(&second, text.as_bytes(), key, r.next()));
+        let (one, two) = (caller.redacted(&first, text.as_bytes(), key, r.next()), caller.redacted(&second, text.as_bytes(), key, r.next()));
         let same = (&one.text, &one.report, one.rows) == (&two.text, &two.report, two.rows);
         if !premises {
             apart += u64::from(!same);

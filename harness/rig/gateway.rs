@@ -101,7 +101,7 @@ impl Buffer {
     }
 }
 
-pub struct Bench {
+pub struct Caller {
     pub output: Buffer,
     pub report: Buffer,
     pub scratch: Buffer,
@@ -120,8 +120,8 @@ fn slice(t: &[u8], seed: u64) -> (*const u8, usize) {
     if t.is_empty() && seed & 1 == 0 { (ptr::null(), 0) } else { (t.as_ptr(), t.len()) }
 }
 
-impl Bench {
-    pub fn new() -> Bench {
+impl Caller {
+    pub fn new() -> Caller {
         let mut x: u64 = 88172645463325252;
         let mut garbage = Vec::new();
         while garbage.len() < 2 * ROOM {
@@ -130,7 +130,7 @@ impl Bench {
             x ^= x << 17;
             garbage.push((x >> 32) as u8 | 1);
         }
-        Bench { output: Buffer::new(), report: Buffer::new(), scratch: Buffer::new(), garbage }
+        Caller { output: Buffer::new(), report: Buffer::new(), scratch: Buffer::new(), garbage }
     }
 
     /// Calls the port, and says what differs from what was expected.

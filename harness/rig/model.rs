@@ -2,7 +2,7 @@
 //! the Rust nor with the port.
 use std::collections::HashSet;
 
-pub const BENCH: usize = 49_152;
+pub const LEAST: usize = 49_152;
 pub const LONGEST: usize = 32_768;
 
 // ---- policies
@@ -496,7 +496,7 @@ impl Run<'_> {
 
     fn grown(&mut self, before: usize, after: usize) -> Result<(), u32> {
         self.size = self.size + after - before;
-        if self.size > BENCH { Err(11) } else { Ok(()) }
+        if self.size > LEAST { Err(11) } else { Ok(()) }
     }
 
     fn row(&mut self, (s, f, r, c, l): Place, action: &Action) {

@@ -10,7 +10,7 @@ mod reader;
 use er7_redact::{Policy, Posture};
 use gateway::{Entry, Lengths, Outcome};
 use make::Random;
-use model::{BENCH, Message, Path, Run};
+use model::{LEAST, Message, Path, Run};
 use std::collections::{BTreeMap, BTreeSet};
 
 const SEED: u64 = 1;
@@ -52,7 +52,7 @@ struct Case {
 
 /// The outcome in buffers of these lengths.
 fn outcome(entry: &Entry, lengths: Lengths) -> Outcome {
-    if lengths.output < BENCH || lengths.scratch < BENCH {
+    if lengths.output < LEAST || lengths.scratch < LEAST {
         return Outcome::refused(1, 0);
     }
     let o = oracle::expected(entry).unwrap_or_else(|what| panic!("{what}: {entry:?}"));
@@ -248,23 +248,23 @@ impl Sample {
 }
 
 fn lent(report: usize) -> Lengths {
-    Lengths { output: BENCH, report, scratch: BENCH }
+    Lengths { output: LEAST, report, scratch: LEAST }
 }
 
 /// Lengths that suffice but for one case in some fifteen; the report's is sometimes its own length, or one less.
 fn lengths(r: &mut Random, entry: &Entry) -> Lengths {
     let one = |r: &mut Random| match r.below(60) {
-        0 => BENCH - 1,
-        1 => r.below(BENCH),
-        2..=40 => BENCH,
-        _ => BENCH + r.below(LONGEST - BENCH + 1),
+        0 => LEAST - 1,
+        1 => r.below(LEAST),
+        2..=40 => LEAST,
+        _ => LEAST + r.below(LONGEST - LEAST + 1),
     };
     let mut lengths = Lengths { output: one(r), report: LONGEST, scratch: one(r) };
     let kind = r.below(12);
     if !matches!(entry, Entry::Redact { .. }) {
         lengths.report = 0;
     } else if kind < 3 {
-        let own = outcome(entry, Lengths { output: BENCH, ..lengths }).report.len();
+        let own = outcome(entry, Lengths { output: LEAST, ..lengths }).report.len();
         lengths.report = [own, own + 1, own.saturating_sub(1)][kind];
     }
     lengths
@@ -293,12 +293,12 @@ fn limits(sample: &mut Sample) {
     sample.edge(10, 90, |k| redact(format!("MSH|^~\\&|A\rPID|{leaves}\rOBX|{}", "x".repeat(k)), format!("{rules}\nOBX mask")));
     // the size after a change by a rule, by the posture, by the sweep
     let text = "|".repeat(72);
-    let swollen = [
+    let too_long = [
         ("a", format!("OBX replace {text}\nOBX clear")),
         ("a", format!("PID keep\nreject replace {text}")),
         ("abc", format!("PID-1 replace {text}\nPID keep")),
     ];
-    for (leaf, policy) in swollen {
+    for (leaf, policy) in too_long {
         let leaves = vec![leaf; 225].join("&");
         sample.edge(11, 90, |k| redact(format!("MSH|^~\\&\rPID|abc|{}\rOBX|{leaves}", "x".repeat(k)), policy.clone()));
     }

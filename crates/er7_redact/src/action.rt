@@ -84,7 +84,7 @@ pub fn is_keep(a: Action) -> bool
     kind(a) == 0
 }
 
-pub fn is_null(a: Action) -> bool
+pub fn is_null_action(a: Action) -> bool
     ensures { λ r. ⌜ ((t : Text) → r ≡ isNullAction (asAction t a)) ⌝ }
 {
     kind(a) == 2

@@ -15,7 +15,7 @@ ghost use Rattle.er7_render.specs.Rendered.{rendered};
 ghost use Rattle.er7_render.specs.Inner.{headed, ending, InStore, InTables, leafText, leavesText, segmentText};
 
 // The delimiter before a leaf at p.
-pub fn delimiter_of(s: Separators, p: Place) -> u8
+pub fn delimiter_before(s: Separators, p: Place) -> u8
     ensures { λ r. ⌜ r ≡ delimiter s p ⌝ }
 {
     if p.subcomponent != 1 {
@@ -38,11 +38,11 @@ fn put_lead(s: Separators, header: bool, p: Place, out: &mut [u8], at: usize) ->
     if header & (p.field <= 2) {
         return at;
     }
-    byte_at(out, at, delimiter_of(s, p))
+    byte_at(out, at, delimiter_before(s, p))
 }
 
 // Writes leaf i and what stands before it to out from index at on, and nothing if the leaf has vanished. Returns the index behind it.
-fn put_leaf(
+fn print_leaf(
     s: Separators,
     header: bool,
     cells: &[usize],
@@ -82,7 +82,7 @@ fn put_leaves(
     let mut i = first;
     let mut k = at;
     while i < end {
-        k = put_leaf(s, header, cells, i, store, out, k);
+        k = print_leaf(s, header, cells, i, store, out, k);
         i += 1;
     }
     k
@@ -114,7 +114,7 @@ fn put_cr(wanted: bool, out: &mut [u8], at: usize) -> usize
 }
 
 // Writes segment k to out from index at on, and returns the index behind it; a CR ends it, the last one only if the message ended so.
-fn put_segment(
+fn print_segment(
     counts: Counts,
     k: usize,
     segs: &[usize; 2056],
@@ -159,7 +159,7 @@ pub fn render(
     let mut at = 0;
     let mut k = 0;
     while k < counts.segments {
-        at = put_segment(counts, k, segs, cells, store, out, at);
+        at = print_segment(counts, k, segs, cells, store, out, at);
         k += 1;
     }
     at

@@ -21,57 +21,57 @@ use Rattle.policy_model.specs.Builtin.{builtinText}
 use Rattle.run_model.specs.Entries as E
 use Rattle.run_model.specs.Entries.{Lent, LentReport, RedactOutcome, Redaction, Answer, done, redactAnswer, redactOutcome, appendAnswer, builtinAnswer, payloadAnswer}
 
-pub data Row : Type 0 where
+pub data Case : Type 0 where
   -- the text reads as this path, with its segment, occurrence, field, repetition, component and subcomponent
-  path-is : String → String → ℕ → ℕ → ℕ → ℕ → ℕ → Row
+  path-is : String → String → ℕ → ℕ → ℕ → ℕ → ℕ → Case
   -- the text is read as a path and printed so
-  path-prints : String → String → Row
-  path-refused : String → Row
-  action-is : String → Action → Row
+  path-prints : String → String → Case
+  path-refused : String → Case
+  action-is : String → Action → Case
   -- the text is read as no action, with this number
-  action-refused : String → ℕ → Row
+  action-refused : String → ℕ → Case
   -- under a key, the action puts the second text in the place of the first
-  applies : ℕ → Action → String → String → Row
+  applies : ℕ → Action → String → String → Case
   -- the FNV-1a hash of the text
-  hash-is : String → ℕ → Row
+  hash-is : String → ℕ → Case
   -- the text is read as a policy and printed so
-  policy-prints : String → String → Row
+  policy-prints : String → String → Case
   -- the policy is refused with this number and line
-  policy-refused : String → ℕ → ℕ → Row
+  policy-refused : String → ℕ → ℕ → Case
   -- the message is refused with this number; 0 if it is not
-  message-fault : String → ℕ → Row
+  message-fault : String → ℕ → Case
   -- the message prints as it came
-  message-prints : String → Row
+  message-prints : String → Case
   -- the places and texts of the leaves of the last segment: field, repetition, component, subcomponent, and the text with its length behind it
-  leaves-are : String → List ℕ → Row
+  leaves-are : String → List ℕ → Case
   -- with the delimiters `|^~\\&`, the first text is read as the second, and the second written as the third
-  value-is : String → String → String → Row
+  value-is : String → String → String → Case
   -- message, policy and key give this text, report and number of rows, with every byte of every lent buffer
-  redacts : String → String → ℕ → String → String → ℕ → Row
-  -- message and policy give, under key 0, the first text and not the second, which a slip would give
-  not-slipped : String → String → String → String → Row
+  redacts : String → String → ℕ → String → String → ℕ → Case
+  -- message and policy give, under key 0, the first text and not the second, which a mistake would give
+  gives-not : String → String → String → String → Case
   -- message and policy are refused with this number and line
-  redact-refused : String → String → ℕ → ℕ → Row
+  redact-refused : String → String → ℕ → ℕ → Case
   -- two policies are merged and printed so
-  appends : String → String → String → Row
+  appends : String → String → String → Case
   -- the built-in of this number prints so; it reads as so many rules
-  builtin-prints : ℕ → String → Row
-  builtin-rules : ℕ → ℕ → Row
+  builtin-prints : ℕ → String → Case
+  builtin-rules : ℕ → ℕ → Case
   -- a payload under a policy and key 0 becomes the third text
-  payload-becomes : String → String → String → Row
+  payload-becomes : String → String → String → Case
   -- a payload under a policy is refused with this number
-  payload-refused : String → String → ℕ → Row
+  payload-refused : String → String → ℕ → Case
   -- a policy of so many rules is refused with this number and line; 0 and 0 if it is not
-  rules-give : ℕ → ℕ → ℕ → Row
+  rules-give : ℕ → ℕ → ℕ → Case
   -- a message with so many segments behind the header, each of so many fields with so many bytes, is refused with this number; 0 if it is not
-  segments-give : ℕ → ℕ → ℕ → ℕ → Row
+  segments-give : ℕ → ℕ → ℕ → ℕ → Case
   -- is the first text a whole word of the second?
-  whole-word : String → String → Bool → Row
+  whole-word : String → String → Bool → Case
   -- the text of key.txt is read as this key
-  key-is : String → ℕ → Row
-  key-refused : String → Row
+  key-is : String → ℕ → Case
+  key-refused : String → Case
   -- striplog prints the fourth text of the texts of message.er7, policy.txt and key.txt
-  strips : String → String → String → String → Row
+  strips : String → String → String → String → Case
 
 -- ---- tests of two values
 
@@ -189,7 +189,7 @@ refuses (E.refused e k) n l = eqb (number e) n && eqb k l
 
 -- ---- the table
 
-unfoldable pub right : Row → Bool
+unfoldable pub right : Case → Bool
 right (path-is s w o f r c u) =
     is samePath (readPath (bytes s)) (record { segment = bytes w; occurrence = o; field = f; repetition = r; component = c; subcomponent = u })
 right (path-prints s t) = prints printPath (readPath (bytes s)) (bytes t)
@@ -205,7 +205,7 @@ right (message-prints s) = same (printMessage (messageOf (bytes s))) (bytes s)
 right (leaves-are s ns) = same (lastLeaves (messageOf (bytes s) .segments)) ns
 right (value-is s v w) = same (value usual (bytes s)) (bytes v) && same (encode usual (bytes v)) (bytes w)
 right (redacts m p key t r n) = sameOutcome (redactOutcome lentReport (bytes m) (bytes p) key) (bytes t) (bytes r) n
-right (not-slipped m p t u) = redactsTo (redactAnswer lentReport (bytes m) (bytes p) 0) (bytes t) && not (redactsTo (redactAnswer lentReport (bytes m) (bytes p) 0) (bytes u))
+right (gives-not m p t u) = redactsTo (redactAnswer lentReport (bytes m) (bytes p) 0) (bytes t) && not (redactsTo (redactAnswer lentReport (bytes m) (bytes p) 0) (bytes u))
 right (redact-refused m p n l) = refuses (redactAnswer lentReport (bytes m) (bytes p) 0) n l
 right (appends p q t) = gives (appendAnswer lent (bytes p) (bytes q)) (bytes t)
 right (builtin-prints n t) = gives (builtinAnswer lent n) (bytes t)
@@ -219,11 +219,11 @@ right (key-is s n) = is eqb (readKey (bytes s)) n
 right (key-refused s) = isNone (readKey (bytes s))
 right (strips m p k t) = same (stripped (some (bytes m)) (some (bytes p)) (some (bytes k))) (bytes t)
 
-unfoldable pub allRight : List Row → Bool
+unfoldable pub allRight : List Case → Bool
 allRight [] = true
 allRight (r ∷ rs) = right r && allRight rs
 
-unfoldable pub table : List Row
+unfoldable pub table : List Case
 table =
     path-is "PID.005" "PID" 0 5 0 0 0
     ∷ path-is "PID-5" "PID" 0 5 0 0 0
@@ -299,13 +299,13 @@ table =
     ∷ strips "MSH|^~\\&|A\rPID|1||4412\rOBX|1|NM|KCAL||4412 kcal\r" "known-values on\nPID-0 mask\n" "0" "refused 8 line 2\n"
     ∷ strips "MSH|^~\\&|A\rPID|1||4412\rOBX|1|NM|KCAL||4412 kcal\r" "PID-3 mask\n" "0x" "bad input\n"
     -- counting OBX over all segments
-    ∷ not-slipped "MSH|^~\\&\rPID|1\rOBX|1\rOBX|2" "OBX[2]-1 clear" "MSH|^~\\&\rPID|1\rOBX|1\rOBX|" "MSH|^~\\&\rPID|1\rOBX|1\rOBX|2"
+    ∷ gives-not "MSH|^~\\&\rPID|1\rOBX|1\rOBX|2" "OBX[2]-1 clear" "MSH|^~\\&\rPID|1\rOBX|1\rOBX|" "MSH|^~\\&\rPID|1\rOBX|1\rOBX|2"
     -- sweeping overlapping hits
-    ∷ not-slipped "MSH|^~\\&\rPID|a-a|xa-a-a" "PID-1 clear" "MSH|^~\\&\rPID||xa-a-a" "MSH|^~\\&\rPID||"
+    ∷ gives-not "MSH|^~\\&\rPID|a-a|xa-a-a" "PID-1 clear" "MSH|^~\\&\rPID||xa-a-a" "MSH|^~\\&\rPID||"
     -- treating a kept leaf as unnamed under reject
-    ∷ not-slipped "MSH|^~\\&\rPID|ab|cd" "PID-1 keep\nreject clear" "MSH|^~\\&\rPID|ab|" "MSH|^~\\&\rPID||"
+    ∷ gives-not "MSH|^~\\&\rPID|ab|cd" "PID-1 keep\nreject clear" "MSH|^~\\&\rPID|ab|" "MSH|^~\\&\rPID||"
     -- learning only the first value of a leaf that two rules change
-    ∷ not-slipped "MSH|^~\\&\rPID|abcd|abc x" "PID-1 first 3\nPID-1 clear" "MSH|^~\\&\rPID||" "MSH|^~\\&\rPID||abc x"
+    ∷ gives-not "MSH|^~\\&\rPID|abcd|abc x" "PID-1 first 3\nPID-1 clear" "MSH|^~\\&\rPID||" "MSH|^~\\&\rPID||abc x"
     -- letting named marks slide to other leaves when a null collapse shortens the message
-    ∷ not-slipped "MSH|^~\\&\rPID|a^b|cde" "PID-1.2 keep\nPID-1 null\nreject mask" "MSH|^~\\&\rPID|\"\"|***" "MSH|^~\\&\rPID|\"\"|cde"
+    ∷ gives-not "MSH|^~\\&\rPID|a^b|cde" "PID-1.2 keep\nPID-1 null\nreject mask" "MSH|^~\\&\rPID|\"\"|***" "MSH|^~\\&\rPID|\"\"|cde"
     ∷ []

@@ -22,6 +22,7 @@ use Rattle.policy.specs.declared.policy.Defaults.{Defaults}
 use Rattle.policy.specs.declared.policy.Fault.{Fault}
 use Rattle.policy.specs.declared.policy.Fault.the-variants as Faults
 use Rattle.policy.specs.Policy.{asRead, PolicyHeld}
+use Rattle.er7_redact.specs.declared.action.Action.the-variants as Actions
 
 -- why a line is refused that follows n rules
 unfoldable pub faultOf : HeldSaying → ℕ → Fault
@@ -51,6 +52,14 @@ rulesIn (Sayings.Posture p) = 0
 rulesIn (Sayings.Unrecognised u) = 0
 rulesIn (Sayings.Sweep b) = 0
 rulesIn (Sayings.Wrong e) = 0
+
+-- a rule that does nothing, for the places behind the last rule
+unfoldable pub noRule : HeldRule
+noRule =
+    record {
+      path = record { segment = 0; «segment_len» = 0; «segment_occurrence» = 0; field = 0; repetition = 0; component = 0; subcomponent = 0 };
+      action = Actions.Keep;
+    }
 
 -- the defaults of a policy that says nothing, and those after what a line says
 unfoldable pub defaults : Defaults

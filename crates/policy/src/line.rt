@@ -5,7 +5,7 @@ use er7_redact::action;
 use er7_redact::action::Action;
 use er7_redact::action::ParsedAction;
 use er7_redact::action::is_keep;
-use er7_redact::action::is_null;
+use er7_redact::action::is_null_action;
 use er7_redact::policy::Posture;
 use er7_redact::policy::Rule;
 use refusal::Refusal;
@@ -93,14 +93,14 @@ fn rejecting(a: Action) -> Posture
 fn applying(a: Action) -> Unrecognised
     ensures { λ r. ⌜ Applying a r ⌝ }
 {
-    if is_keep(a) | is_null(a) {
+    if is_keep(a) | is_null_action(a) {
         return Unrecognised::Pass;
     }
     Unrecognised::Apply(a)
 }
 
 // The action that stands in text from index i to index e, with no blanks around it.
-fn action_at(text: &[u8], i: usize, e: usize) -> ParsedAction
+fn parse_action(text: &[u8], i: usize, e: usize) -> ParsedAction
     requires { ⌜ (i ≤ e) × (e ≤ length (now text)) ⌝ }
     ensures { λ r. ⌜ ActionAt (now (text .entry)) (readAction (between (now (text .entry)) i e)) r ⌝ }
 {
@@ -134,7 +134,7 @@ fn say_reject(text: &[u8], i: usize, e: usize) -> Saying
     if i == e {
         return Saying::Posture(Posture::Reject(Action::Replace { start: 0, len: 0 }));
     }
-    match action_at(text, i, e) {
+    match parse_action(text, i, e) {
         ParsedAction::Parsed(a) => Saying::Posture(rejecting(a)),
         ParsedAction::Refused(refusal) => Saying::Wrong(refusal),
     }
@@ -154,7 +154,7 @@ fn say_unrecognised(text: &[u8], i: usize, e: usize) -> Saying
     if is_word(&text[i..e], b"pass") {
         return Saying::Unrecognised(Unrecognised::Pass);
     }
-    match action_at(text, i, e) {
+    match parse_action(text, i, e) {
         ParsedAction::Parsed(a) => Saying::Unrecognised(applying(a)),
         ParsedAction::Refused(refusal) => Saying::Wrong(refusal),
     }
@@ -190,7 +190,7 @@ fn say_rule(text: &[u8], i: usize, m: usize, k: usize, e: usize) -> Saying
     requires { ⌜ (i ≤ m) × (m ≤ k) × (k ≤ e) × (e ≤ length (now text)) ⌝ }
     ensures { λ r. ⌜ Says (now (text .entry)) (M.sayRule (between (now (text .entry)) i m) (between (now (text .entry)) k e)) r ⌝ }
 {
-    match action_at(text, k, e) {
+    match parse_action(text, k, e) {
         ParsedAction::Parsed(a) => with_path(text, i, m, a),
         ParsedAction::Refused(refusal) => {
             return Saying::Wrong(refusal);

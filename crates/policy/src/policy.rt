@@ -14,7 +14,7 @@ ghost use Prim.Native.Nat.{suc, _≤_};
 ghost use lib.ListN.{length};
 ghost use Rattle.policy_model.specs.Policy.{isPolicyText};
 ghost use Rattle.policy.specs.Policy.{PolicyIs};
-ghost use Rattle.policy.specs.Reading.{faultOf, placeOf, ruleOr, rulesIn, withSaying, heldOf, defaults, RefusedAs, NextLine, LinesRead, isByteAt};
+ghost use Rattle.policy.specs.Reading.{faultOf, placeOf, ruleOr, rulesIn, withSaying, heldOf, defaults, noRule, RefusedAs, NextLine, LinesRead, isByteAt};
 
 // The rules in their order, the first `count` of the array, and the three defaults. Names and replacements stand in the policy's text.
 pub struct Policy {
@@ -177,7 +177,9 @@ fn is_policy_text(text: &[u8]) -> bool
 }
 
 // A rule that does nothing, for the places behind the last rule.
-fn no_rule() -> Rule {
+fn no_rule() -> Rule
+    ensures { λ r. ⌜ r ≡ noRule ⌝ }
+{
     let path = Path {
         segment: 0,
         segment_len: 0,

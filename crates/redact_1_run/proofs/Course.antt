@@ -37,8 +37,8 @@ use Rattle.redact_2_turn.specs.declared.turn.Aim.{Aim}
 use Rattle.redact_2_turn.specs.declared.turn.Job.{Job}
 use Rattle.redact_2_turn.proofs.Still.{Still, unpicked}
 use Rattle.redact_2_turn.proofs.Turns.{leaves-same, leaves-silent}
-use Rattle.redact_1_run.specs.Turns.{Task, tasksOf, passFor, segmentsBy, bookBy, afterTasks, bookTasks, TurnIs, sweepTurn, ruleRow}
-use Rattle.redact_1_run.specs.Stage.{Stands, PoisedOr, Begun, Lent, NextIs}
+use Rattle.redact_1_run.specs.Turns.{Task, tasksOf, passFor, segmentsBy, bookBy, afterTasks, bookTasks, TurnIs, turnOfSweep, ruleRow}
+use Rattle.redact_1_run.specs.Stage.{Stands, PoisedOr, Begun, Inputs, NextIs}
 use Rattle.redact_1_run.proofs.Stages.{Sound, turn-sound, book-knows, stands-next, stands-poised, stands-later}
 use Rattle.redact_1_run.proofs.Tasks.{task-after, task-book, FirstTasks, taskAt, task-rule, task-posture, task-sweep, first-none, first-more}
 use Rattle.redact_1_run.proofs.Steps.{row-low}
@@ -86,8 +86,8 @@ none-known text bytes known c e = rw e
 -- ---- the turn of a task
 
 module _ (key : ℕ) (s : Separators) (text : Text) (β : Buffers) (c : Counters) (ss : List Segment) where
-  sweep-alike : {turn : Turn} → turn ≡ sweepTurn (Going c) → Alike (passOf key s text (knowing text β c) turn) (unnamedPass key s (forSweep s (knowing text β c))) ss
-  unfolding sweepTurn
+  sweep-alike : {turn : Turn} → turn ≡ turnOfSweep (Going c) → Alike (passOf key s text (knowing text β c) turn) (unnamedPass key s (forSweep s (knowing text β c))) ss
+  unfolding turnOfSweep
   sweep-alike {turn} e = go (eqb (c .known) 0) refl e
     where
       go : (b : Bool) → eqb (c .known) 0 ≡ b → turn ≡ cond b Idle Sweep → Alike (passOf key s text (knowing text β c) turn) (unnamedPass key s (forSweep s (knowing text β c))) ss
@@ -105,8 +105,8 @@ module _ (text : Text) (policy : HeldPolicy) (key : ℕ) (s : Separators) (β : 
       (λ l. let e : k ≡ policy .count = omega arith in rw (task-posture text policy rule e) (alike-eq (t .by-posture e .pass key s text (knowing text β c) ∙ unfold passFor asPolicy in refl))))
 
 -- it names what lies in the policy's text
-sweep-held : (text : Text) (d : Done) → TurnHeld text (sweepTurn d)
-unfolding sweepTurn
+sweep-held : (text : Text) (d : Done) → TurnHeld text (turnOfSweep d)
+unfolding turnOfSweep
 sweep-held text (Going c) = go (eqb (c .known) 0)
   where
     go : (b : Bool) → TurnHeld text (cond b Idle Sweep)
@@ -123,7 +123,7 @@ turn-held {text} {policy} p {k} i e z d turn t =
     (λ l. subst (TurnHeld text) (sym (t .by-sweep l)) (sweep-held text d))
     (λ l. t .by-posture (omega arith) .held text (p .posture)))
 
-pub job-held : {text : Text} {on : Setting} {segs : List ℕ} → Lent text segs on → (turn : Turn) (aim : Aim) → TurnHeld text turn → aim ≡ aimOf text turn → JobHeld text (record { on = on; turn = turn; aim = aim })
+pub job-held : {text : Text} {on : Setting} {segs : List ℕ} → Inputs text segs on → (turn : Turn) (aim : Aim) → TurnHeld text turn → aim ≡ aimOf text turn → JobHeld text (record { on = on; turn = turn; aim = aim })
 job-held l turn aim h e = record { held = h; aim = e; policy = l .policy }
 
 module _ (text : Text) (segs : List ℕ) (on : Setting) (policy : HeldPolicy) (q : on .sweep ≡ policy .sweep) (few : on .leaves ≤ 4096) where
@@ -171,10 +171,10 @@ module _ (text : Text) (segs : List ℕ) (on : Setting) (policy : HeldPolicy) (p
   turns-start = record { high = omega arith; tasks = []; first = first-none text policy; to = λ x cr ss b g. g }
 
   module _ (k : ℕ) (β : Buffers) (r : Done) (w : TurnsTo text segs on policy β₀ r₀ k β r) where
-    pub turns-poised : Lent text segs on → Begun text segs on β₀ r₀ → PoisedOr text segs on β r
+    pub turns-poised : Inputs text segs on → Begun text segs on β₀ r₀ → PoisedOr text segs on β r
     turns-poised l g = stands-poised r (l .segmented) (omega (arith, w .high, p .few)) (w .to (g .x) (g .cr) (g .ss) (g .book) (g .stands))
 
-    pub turns-more : on .sweep ≡ policy .sweep → Lent text segs on → k < policy .count + 2 → (i : ℕ) → i ≡ ruleRow k (policy .count) → (z : HeldRule) (turn : Turn) (aim : Aim)
+    pub turns-more : on .sweep ≡ policy .sweep → Inputs text segs on → k < policy .count + 2 → (i : ℕ) → i ≡ ruleRow k (policy .count) → (z : HeldRule) (turn : Turn) (aim : Aim)
         → TurnIs k (policy .count) (getD (policy .rules) i z) (policy .posture) r turn → (β′ : Buffers) (r′ : Done)
         → NextIs (passBy text (record { on = on; turn = turn; aim = aim })) on text segs β r β′ r′ → TurnsTo text segs on policy β₀ r₀ (k + 1) β′ r′
     turns-more q l h i e z turn aim t β′ r′ n =

@@ -27,7 +27,7 @@ use Rattle.redact_4_leaf.specs.State.{Buffers, buffers, marked, knownNow, Books
 use Rattle.redact_4_leaf.proofs.Visits.{known-same, held-same}
 use Rattle.redact_2_turn.specs.Ordered.{AllOrdered}
 use Rattle.redact_2_turn.specs.Taken.{Ahead, TurnTaken}
-use Rattle.redact_2_turn.specs.Turn.{collapses}
+use Rattle.redact_2_turn.specs.Turn.{byNode}
 use Rattle.redact_2_turn.specs.declared.turn.Job.{Job}
 use Rattle.redact_2_turn.proofs.Idle.{ordered-as}
 use Rattle.redact_1_run.specs.Stage.{Poised, PoisedOr, RoomFor, MadeRoom, NextIs}
@@ -201,4 +201,4 @@ module _ {text : Text} {segs : List ℕ} {on : Setting} {β : Buffers} {c : Coun
 pub room-ahead : {text : Text} {segs : List ℕ} (job : Job) {named : List Bool} {report : Text} {known cells cells′ : List ℕ} {store store′ bytes bytes′ : Text} {c c′ : Counters}
     → Poised text segs (job .on) (buffers named cells store report bytes known) c → job .on .leaves ≤ 4096 → MadeRoom (job .on .leaves) cells store bytes c cells′ store′ bytes′ c′
     → Ahead text job 0 (buffers named cells′ store′ report bytes′ known) c′
-room-ahead {text} job {named} {report} {known} p few w = record { held = room-held text (job .on) named report known w (p .held); funded = poised-funded p few w (collapses (job .turn)) }
+room-ahead {text} job {named} {report} {known} p few w = record { held = room-held text (job .on) named report known w (p .held); funded = poised-funded p few w (byNode (job .turn)) }

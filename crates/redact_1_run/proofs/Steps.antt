@@ -22,7 +22,7 @@ use Rattle.redact_5_act.specs.declared.state.Done.the-variants.{Going, Stopped}
 use Rattle.redact_2_turn.specs.Turn.{passOf}
 use Rattle.redact_2_turn.specs.declared.turn.Turn.{Turn}
 use Rattle.redact_2_turn.specs.declared.turn.Turn.the-variants.{Apply, Collapse, Reject, Sweep, Idle}
-use Rattle.redact_1_run.specs.Turns.{RuleTurn, PostureTurn, sweepTurn, TurnIs, ruleRow}
+use Rattle.redact_1_run.specs.Turns.{RuleTurn, PostureTurn, turnOfSweep, TurnIs, ruleRow}
 
 module _ (rule : HeldRule) {d : HeldReach} (f : (t : Text) → asReach d ≡ reach (asRule t rule)) where
   pub leaf-turn : d ≡ EachLeaf → RuleTurn rule (Apply rule)
@@ -42,16 +42,16 @@ unfolding passOf asPosture
 reject-turn e = rw e (record { held = λ t h. h; pass = λ key s t ks. refl })
 
 module _ {d : Done} where
-  pub sweep-idle : {c : Counters} → d ≡ Going c → c .known ≡ 0 → Idle ≡ sweepTurn d
-  unfolding sweepTurn
+  pub sweep-idle : {c : Counters} → d ≡ Going c → c .known ≡ 0 → Idle ≡ turnOfSweep d
+  unfolding turnOfSweep
   sweep-idle {c} e q = rw (e, eq-eqb (c .known) 0 q)
 
-  pub sweep-some : {c : Counters} → d ≡ Going c → (c .known ≡ 0 → ⊥) → Sweep ≡ sweepTurn d
-  unfolding sweepTurn
+  pub sweep-some : {c : Counters} → d ≡ Going c → (c .known ≡ 0 → ⊥) → Sweep ≡ turnOfSweep d
+  unfolding turnOfSweep
   sweep-some {c} e q = rw (e, ne-eqb (c .known) 0 q)
 
-  pub sweep-refused : {e : Refusal} → d ≡ Stopped e → Idle ≡ sweepTurn d
-  unfolding sweepTurn
+  pub sweep-refused : {e : Refusal} → d ≡ Stopped e → Idle ≡ turnOfSweep d
+  unfolding turnOfSweep
   sweep-refused e = rw e
 
 pub above : {k count : ℕ} → count ≤ k → (k ≡ count → ⊥) → count < k
@@ -64,7 +64,7 @@ module _ {k count : ℕ} {rule : HeldRule} {posture : HeldPosture} {d : Done} {r
   pub at-posture : k ≡ count → PostureTurn posture r → TurnIs k count rule posture d r
   at-posture e t = record { by-rule = λ l. absurd (omega arith); by-posture = λ q. t; by-sweep = λ l. absurd (omega arith) }
 
-  pub at-sweep : count < k → r ≡ sweepTurn d → TurnIs k count rule posture d r
+  pub at-sweep : count < k → r ≡ turnOfSweep d → TurnIs k count rule posture d r
   at-sweep h t = record { by-rule = λ l. absurd (omega arith); by-posture = λ e. absurd (omega arith); by-sweep = λ l. t }
 
 pub row-low : {k count : ℕ} → k < count → k ≡ ruleRow k count

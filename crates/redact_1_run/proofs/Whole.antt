@@ -31,7 +31,7 @@ use Rattle.redact_5_act.specs.declared.state.Done.the-variants.{Going, Stopped}
 use Rattle.redact_4_leaf.specs.Walk.{segmentOf}
 use Rattle.redact_4_leaf.specs.State.{Buffers, buffers, leaves, marked, knownNow}
 use Rattle.redact_1_run.specs.Turns.{tasksOf, afterTasks, bookTasks}
-use Rattle.redact_1_run.specs.Stage.{segmentsOf, Stage, Stands, Begun, Lent}
+use Rattle.redact_1_run.specs.Stage.{segmentsOf, Stage, Stands, Begun, Inputs}
 use Rattle.redact_1_run.specs.Ran.{Loaded, AnyLoaded, Printable, Ran, RedactedIs}
 use Rattle.redact_1_run.specs.declared.core.Redacted.the-variants.{Redacted as Whole, Refused}
 use Rattle.redact_1_run.proofs.Tasks.{tasks-redact}
@@ -130,7 +130,7 @@ module _ {message policy : Text} {size : ℕ} {counts : Counts} {segs cells : Li
     stands = first-stands key sweep (w .loaded) p report bytes known;
   }
 
-  pub run-lent : (key : ℕ) (sweep : Bool) → Lent policy segs (settingOf key sweep counts)
+  pub run-lent : (key : ℕ) (sweep : Bool) → Inputs policy segs (settingOf key sweep counts)
   run-lent key sweep = record {
     policy = w .loaded .policy-short;
     named = w .loaded .named;

@@ -53,7 +53,7 @@ pub record Begun (text : Text) (segs : List ℕ) (on : Setting) (β : Buffers) (
   pub stands : Stands x cr text segs on 0 ss book β r
 
 -- what a run asks of its other buffers
-pub record Lent (text : Text) (segs : List ℕ) (on : Setting) : Type 0 where
+pub record Inputs (text : Text) (segs : List ℕ) (on : Setting) : Type 0 where
   pub policy : length text ≤ 32768
   pub named : AllNamed segs (on .segments)
   pub segmented : Segmented segs (on .segments) (on .leaves)

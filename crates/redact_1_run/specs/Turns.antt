@@ -65,15 +65,15 @@ pub record PostureTurn (posture : HeldPosture) (r : Turn) : Type 0 where
   pub pass : (key : ℕ) (s : Separators) (t : Text) (ks : List Known) → passOf key s t ks r ≡ unnamedPass key s (forPosture (asPosture t posture))
 
 -- a sweep with nothing known has nothing to do
-unfoldable pub sweepTurn : Done → Turn
-sweepTurn (Going c) = cond (eqb (c .known) 0) Idle Sweep
-sweepTurn (Stopped e) = Idle
+unfoldable pub turnOfSweep : Done → Turn
+turnOfSweep (Going c) = cond (eqb (c .known) 0) Idle Sweep
+turnOfSweep (Stopped e) = Idle
 
 -- turn k of a policy of `count` rules, of which `rule` is rule k
 pub record TurnIs (k count : ℕ) (rule : HeldRule) (posture : HeldPosture) (done : Done) (r : Turn) : Type 0 where
   pub by-rule : k < count → RuleTurn rule r
   pub by-posture : k ≡ count → PostureTurn posture r
-  pub by-sweep : count < k → r ≡ sweepTurn done
+  pub by-sweep : count < k → r ≡ turnOfSweep done
 
 unfoldable pub ruleRow : ℕ → ℕ → ℕ
 ruleRow k count = cond (ltb k count) k 0

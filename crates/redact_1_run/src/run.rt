@@ -24,8 +24,8 @@ ghost use Rattle.run_model.specs.Redact.{Book};
 ghost use Rattle.policy.specs.Policy.{asPolicy, PolicyHeld};
 ghost use Rattle.redact_4_leaf.specs.State.{buffers};
 ghost use Rattle.redact_2_turn.specs.Turn.{passBy, JobHeld};
-ghost use Rattle.redact_1_run.specs.Turns.{RuleTurn, PostureTurn, sweepTurn, TurnIs, ruleRow, afterTasks, bookTasks, tasksOf};
-ghost use Rattle.redact_1_run.specs.Stage.{Stands, Begun, Lent, PoisedOr, RoomFor, NextIs, MadeRoom};
+ghost use Rattle.redact_1_run.specs.Turns.{RuleTurn, PostureTurn, turnOfSweep, TurnIs, ruleRow, afterTasks, bookTasks, tasksOf};
+ghost use Rattle.redact_1_run.specs.Stage.{Stands, Begun, Inputs, PoisedOr, RoomFor, NextIs, MadeRoom};
 
 // Which leaves are named, and how far the run has come.
 pub struct Run {
@@ -57,7 +57,7 @@ fn posture_turn(posture: Posture) -> Turn
 
 // The turn of the sweep: where nothing is known it has nothing to do.
 fn sweep_turn(done: Done) -> Turn
-    ensures { λ r. ⌜ r ≡ sweepTurn done ⌝ }
+    ensures { λ r. ⌜ r ≡ turnOfSweep done ⌝ }
 {
     match done {
         Done::Going(c) => {
@@ -116,7 +116,7 @@ fn with_room(
 }
 
 // The next turn, unless the run was refused.
-fn next(
+fn next_turn(
     job: Job,
     text: &[u8],
     segs: &[usize; 2056],
@@ -128,7 +128,7 @@ fn next(
     known: &mut [usize; 4096],
     done: Done,
 ) -> Done
-    requires { ⌜ JobHeld (now text) job × Lent (now text) (now segs) (job .on) × PoisedOr (now text) (now segs) (job .on) (buffers (now named) (now cells) (now store) (now report) (now bytes) (now known)) done ⌝ }
+    requires { ⌜ JobHeld (now text) job × Inputs (now text) (now segs) (job .on) × PoisedOr (now text) (now segs) (job .on) (buffers (now named) (now cells) (now store) (now report) (now bytes) (now known)) done ⌝ }
     ensures { λ r. ⌜ NextIs (passBy (now (text .entry)) job) (job .on) (now (text .entry)) (now (segs .entry)) (buffers (now (named .entry)) (now (cells .entry)) (now (store .entry)) (now (report .entry)) (now (bytes .entry)) (now (known .entry))) done (buffers (now (named .exit)) (now (cells .exit)) (now (store .exit)) (now (report .exit)) (now (bytes .exit)) (now (known .exit))) r ⌝ }
 {
     match done {
@@ -169,7 +169,7 @@ pub fn run_turns(
     bytes: &mut [u8; 65536],
     known: &mut [usize; 4096],
 ) -> Run
-    requires { ⌜ PolicyHeld (now text) policy × (on .sweep ≡ policy .sweep) × Lent (now text) (now segs) on × Begun (now text) (now segs) on (buffers (run .named) (now cells) (now store) (now report) (now bytes) (now known)) (run .done) ⌝ }
+    requires { ⌜ PolicyHeld (now text) policy × (on .sweep ≡ policy .sweep) × Inputs (now text) (now segs) on × Begun (now text) (now segs) on (buffers (run .named) (now cells) (now store) (now report) (now bytes) (now known)) (run .done) ⌝ }
     ensures { λ r. ⌜ ((x : ℕ) (cr : Bool) (ss : List Segment) (b : Book) → Stands x cr (now (text .entry)) (now (segs .entry)) on 0 ss b (buffers (run .named) (now (cells .entry)) (now (store .entry)) (now (report .entry)) (now (bytes .entry)) (now (known .entry))) (run .done) → Stands x cr (now (text .entry)) (now (segs .entry)) on 130 (afterTasks (on .key) (on .separators) (asPolicy (now (text .entry)) policy) (tasksOf (asPolicy (now (text .entry)) policy)) ss b) (bookTasks (on .key) (on .separators) (asPolicy (now (text .entry)) policy) (tasksOf (asPolicy (now (text .entry)) policy)) ss b) (buffers (r .named) (now (cells .exit)) (now (store .exit)) (now (report .exit)) (now (bytes .exit)) (now (known .exit))) (r .done)) ⌝ }
 {
     let mut named = run.named;
@@ -182,7 +182,7 @@ pub fn run_turns(
         let turn = turn_at(k, policy.count, rule, posture, done);
         let aim = aim_of(turn, text);
         let job = Job { on, turn, aim };
-        done = next(
+        done = next_turn(
             job,
             text,
             segs,

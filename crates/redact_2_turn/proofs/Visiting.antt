@@ -29,7 +29,7 @@ use Rattle.redact_4_leaf.specs.State.{Buffers, buffers, leaves, marked, textOf,
 use Rattle.redact_4_leaf.specs.Visit.{rulePass, unnamedPass, Visited, Visit}
 use Rattle.redact_4_leaf.specs.declared.leaf.Spot.{Spot}
 use Rattle.redact_4_leaf.proofs.Unnamed.{unnamed-acted}
-use Rattle.redact_2_turn.specs.Turn.{passOf, passBy, collapses, aimAt, aimOf, aimUnnamed, enters, isTouched, works, TurnHeld, JobHeld}
+use Rattle.redact_2_turn.specs.Turn.{passOf, passBy, byNode, aimAt, aimOf, aimUnnamed, enters, isTouched, works, TurnHeld, JobHeld}
 use Rattle.redact_2_turn.specs.Ordered.{Rising, Ordered, AllOrdered, StartAt, Skipped, SegmentsSkipped, SpotIs}
 use Rattle.redact_2_turn.specs.Taken.{Ahead, Visitable, Passable, Passing, PassedOr, LeavesPassed, Turning, Turned, TurnedOr, TurnTaken}
 use Rattle.redact_2_turn.specs.declared.turn.Turn.{Turn}
@@ -79,8 +79,8 @@ module _ {text : Text} {job : Job} (h : JobHeld text job) {at : Spot} {β : Buff
     worked : works (aimOf text turn) (asLabel (at .label)) (marked (β .named) (at .index)) (β .cells) (at .index) ≡ true
     worked = rw aim-is at (v .works)
 
-  ready : {turn : Turn} → job .turn ≡ turn → collapses turn ≡ false → Ready (β .cells) (β .store) (job .on .leaves) (at .index) c
-  ready e q = funded-ready (v .ahead .held) (v .ahead .funded) (ap collapses e ∙ q) inside leaf-live
+  ready : {turn : Turn} → job .turn ≡ turn → byNode turn ≡ false → Ready (β .cells) (β .store) (job .on .leaves) (at .index) c
+  ready e q = funded-ready (v .ahead .held) (v .ahead .funded) (ap byNode e ∙ q) inside leaf-live
 
   rule-covers : (r : HeldRule) → PathHeld text (r .path) → enters (aimAt text (r .path)) (asLabel (at .label)) ≡ true → works (aimAt text (r .path)) (asLabel (at .label)) (marked (β .named) (at .index)) (β .cells) (at .index) ≡ true
       → covers (asRule text r) (asLabel (at .label)) (placeAt (β .cells) (at .index)) ≡ true
@@ -95,24 +95,24 @@ module _ {text : Text} {job : Job} (h : JobHeld text job) {at : Spot} {β : Buff
   -- what each visit asks for
   pub apply-asks : {r : HeldRule} → job .turn ≡ Apply r
       → ActionHeld text (r .action) × (reach (asRule text r) ≡ each-leaf) × (covers (asRule text r) (asLabel (at .label)) (placeAt (β .cells) (at .index)) ≡ true) × Ready (β .cells) (β .store) (job .on .leaves) (at .index) c × KnownHeld text (β .bytes) (β .known) c × (length text ≤ 32768) × (job .on .leaves ≤ 4096)
-  unfolding aimOf collapses
+  unfolding aimOf byNode
   apply-asks {r} e =
       let t = turn-held e in
       (t .1, t .2, rule-covers r (t .0) (entered e) (worked e), ready e refl, v .ahead .held .known, h .policy, v .ahead .held .marks)
 
   pub collapse-asks : {r : HeldRule} → job .turn ≡ Collapse r
       → ActionHeld text (r .action) × (isNode (reach (asRule text r)) ≡ true) × (covers (asRule text r) (asLabel (at .label)) (placeAt (β .cells) (at .index)) ≡ true) × NodeReady (β .cells) (β .store) (job .on .leaves) (at .index) (at .end) c × KnownHeld text (β .bytes) (β .known) c × (length text ≤ 32768) × (job .on .leaves ≤ 4096)
-  unfolding aimOf collapses
+  unfolding aimOf byNode
   collapse-asks {r} e =
       let t = turn-held e in
-      (t .1, t .2, rule-covers r (t .0) (entered e) (worked e), funded-node (v .ahead .held) (v .ahead .funded) (ap collapses e) (v .inside) (v .ends) leaf-live, v .ahead .held .known, h .policy, v .ahead .held .marks)
+      (t .1, t .2, rule-covers r (t .0) (entered e) (worked e), funded-node (v .ahead .held) (v .ahead .funded) (ap byNode e) (v .inside) (v .ends) leaf-live, v .ahead .held .known, h .policy, v .ahead .held .marks)
 
   pub reject-asks : {a : HeldAction} → job .turn ≡ Reject a → ActionHeld text a × Ready (β .cells) (β .store) (job .on .leaves) (at .index) c × (length text ≤ 32768)
-  unfolding collapses
+  unfolding byNode
   reject-asks e = (turn-held e, ready e refl, h .policy)
 
   pub sweep-asks : job .turn ≡ Sweep → KnownHeld text (β .bytes) (β .known) c × Ready (β .cells) (β .store) (job .on .leaves) (at .index) c × (length text ≤ 32768) × (job .on .leaves ≤ 4096)
-  unfolding collapses
+  unfolding byNode
   sweep-asks e = (v .ahead .held .known, ready e refl, h .policy, v .ahead .held .marks)
 
   -- a leaf that no rule named
@@ -127,8 +127,8 @@ module _ {text : Text} {job : Job} (h : JobHeld text job) {at : Spot} {β : Buff
   -- what each visit answers, of the turn's pass
   pub rejected : {a : HeldAction} → job .turn ≡ Reject a → {cells′ : List ℕ} {store′ report′ bytes′ : Text} (r : Done)
       → ActedOn (act (job .on .key) (job .on .separators) (asAction text a) (textOf (β .cells) (β .store) (at .index))) (row (asLabel (at .label)) (placeAt (β .cells) (at .index)) (asAction text a)) (job .on .leaves) (at .index) (β .cells) (β .store) (β .report) (β .bytes) c cells′ store′ report′ bytes′ r
-      → Visit (passBy text job) (collapses (job .turn)) (job .on) at text β c (buffers (β .named) cells′ store′ report′ bytes′ (β .known)) r
-  unfolding passBy passOf collapses
+      → Visit (passBy text job) (byNode (job .turn)) (job .on) at text β c (buffers (β .named) cells′ store′ report′ bytes′ (β .known)) r
+  unfolding passBy passOf byNode
   rejected {a} e r d =
       rw e (unnamed-acted (job .on) at text (β .named) (β .cells) (β .store) (β .report) (β .bytes) (β .known) c (λ ks. forPosture (reject (asAction text a))) (ready e refl) (v .ahead .held .marks) (v .ahead .held .known) (asAction text a) (reject-unnamed e) (unfold forPosture in refl) same-all r d)
 
@@ -137,23 +137,23 @@ module _ {text : Text} {job : Job} (h : JobHeld text job) {at : Spot} {β : Buff
   never-idle e = clash (sym (entered e))
 
 module _ {text : Text} (job : Job) {at : Spot} {β : Buffers} {c : Counters} {β′ : Buffers} {r : Done} where
-  pub applied : {rule : HeldRule} → job .turn ≡ Apply rule → Visit (λ ks. rulePass (job .on .key) (job .on .separators) (asRule text rule)) false (job .on) at text β c β′ r → Visit (passBy text job) (collapses (job .turn)) (job .on) at text β c β′ r
-  unfolding passBy passOf collapses
+  pub applied : {rule : HeldRule} → job .turn ≡ Apply rule → Visit (λ ks. rulePass (job .on .key) (job .on .separators) (asRule text rule)) false (job .on) at text β c β′ r → Visit (passBy text job) (byNode (job .turn)) (job .on) at text β c β′ r
+  unfolding passBy passOf byNode
   applied e v = rw e v
 
-  pub collapsed : {rule : HeldRule} → job .turn ≡ Collapse rule → Visit (λ ks. rulePass (job .on .key) (job .on .separators) (asRule text rule)) true (job .on) at text β c β′ r → Visit (passBy text job) (collapses (job .turn)) (job .on) at text β c β′ r
-  unfolding passBy passOf collapses
+  pub collapsed : {rule : HeldRule} → job .turn ≡ Collapse rule → Visit (λ ks. rulePass (job .on .key) (job .on .separators) (asRule text rule)) true (job .on) at text β c β′ r → Visit (passBy text job) (byNode (job .turn)) (job .on) at text β c β′ r
+  unfolding passBy passOf byNode
   collapsed e v = rw e v
 
-  pub swept : job .turn ≡ Sweep → Visit (λ ks. unnamedPass (job .on .key) (job .on .separators) (forSweep (job .on .separators) ks)) false (job .on) at text β c β′ r → Visit (passBy text job) (collapses (job .turn)) (job .on) at text β c β′ r
-  unfolding passBy passOf collapses
+  pub swept : job .turn ≡ Sweep → Visit (λ ks. unnamedPass (job .on .key) (job .on .separators) (forSweep (job .on .separators) ks)) false (job .on) at text β c β′ r → Visit (passBy text job) (byNode (job .turn)) (job .on) at text β c β′ r
+  unfolding passBy passOf byNode
   swept e v = rw e v
 
 -- ---- the leaves of a segment
 
 -- the leaves before index i are visited or passed by, and with leaf i the turn has to do
 pub record Standing (text : Text) (job : Job) (at : Spot) (i : ℕ) (β₀ : Buffers) (c₀ : Counters) (β : Buffers) (c : Counters) : Type 0 where
-  pub passing : Passing (passBy text job) (collapses (job .turn)) (job .on) (asLabel (at .label)) (at .index) (at .end) i text β₀ c₀ β c
+  pub passing : Passing (passBy text job) (byNode (job .turn)) (job .on) (asLabel (at .label)) (at .index) (at .end) i text β₀ c₀ β c
   pub here : i < at .end → works (job .aim) (asLabel (at .label)) (marked (β .named) i) (β .cells) i ≡ true
 
 -- .. in the variables of the loop
@@ -168,9 +168,9 @@ module _ {text : Text} {job : Job} (h : JobHeld text job) (at : Spot) (β₀ : B
   still-here β c j xs e = still-leaf (job .on .key) (job .on .separators) text (knowing text β c) (asLabel (at .label)) (marked (β .named)) (β .cells) (β .store) j xs (job .turn) (rw (h .aim) at e)
 
   skipped-to : {i r : ℕ} {β : Buffers} {c : Counters} → Skipped (job .aim) (asLabel (at .label)) (β .named) (β .cells) i (at .end) r
-      → Passing (passBy text job) (collapses (job .turn)) (job .on) (asLabel (at .label)) (at .index) (at .end) i text β₀ c₀ β c → Standing text job at r β₀ c₀ β c
+      → Passing (passBy text job) (byNode (job .turn)) (job .on) (asLabel (at .label)) (at .index) (at .end) i text β₀ c₀ β c → Standing text job at r β₀ c₀ β c
   skipped-to {β = β} {c = c} s w = record {
-    passing = passing-still (passBy text job) (collapses (job .turn)) (job .on) (at .label) (at .index) (at .end) text β₀ c₀ (p .ends) (s .low) (s .high) (λ j a b. still-here β c j _ (s .idle j a b)) w;
+    passing = passing-still (passBy text job) (byNode (job .turn)) (job .on) (at .label) (at .index) (at .end) text β₀ c₀ (p .ends) (s .low) (s .high) (λ j a b. still-here β c j _ (s .idle j a b)) w;
     here = s .here;
   }
 
@@ -182,40 +182,40 @@ module _ {text : Text} {job : Job} (h : JobHeld text job) (at : Spot) (β₀ : B
   pub standing-start : Ahead text job (at .index) β₀ c₀ → {s i : ℕ} → StartAt (job .aim .path .field) (at .index) (at .end) s → Skipped (job .aim) (asLabel (at .label)) (β₀ .named) (β₀ .cells) s (at .end) i → Standing text job at i β₀ c₀ β₀ c₀
   standing-start a t k =
       let d = started (job .aim) (asLabel (at .label)) (β₀ .named) (β₀ .cells) (p .ordered) t in
-      skipped-to k (passing-still (passBy text job) (collapses (job .turn)) (job .on) (at .label) (at .index) (at .end) text β₀ c₀ (p .ends) (d .low) (d .high) (λ j x y. still-here β₀ c₀ j _ (d .idle j x y))
-      (passing-start (passBy text job) (collapses (job .turn)) (job .on) (at .label) (at .index) (at .end) text β₀ c₀ (p .order) (a .held) (a .funded)))
+      skipped-to k (passing-still (passBy text job) (byNode (job .turn)) (job .on) (at .label) (at .index) (at .end) text β₀ c₀ (p .ends) (d .low) (d .high) (λ j x y. still-here β₀ c₀ j _ (d .idle j x y))
+      (passing-start (passBy text job) (byNode (job .turn)) (job .on) (at .label) (at .index) (at .end) text β₀ c₀ (p .order) (a .held) (a .funded)))
 
   module _ {i : ℕ} {β : Buffers} {c : Counters} (w : Standing text job at i β₀ c₀ β c) (l : i < at .end) where
     pub standing-visitable : Visitable text job (spot (at .label) (at .end) i) β c
     standing-visitable = record { enters = p .enters; works = w .here l; inside = l; ends = p .ends; ahead = record { held = w .passing .held; funded = w .passing .funded } }
 
-    pub standing-rising : {β′ : Buffers} {r : Done} {c′ : Counters} → Visit (passBy text job) (collapses (job .turn)) (job .on) (spot (at .label) (at .end) i) text β c β′ r → r ≡ Going c′ → Rising (β′ .cells) (i + 1) (at .end)
+    pub standing-rising : {β′ : Buffers} {r : Done} {c′ : Counters} → Visit (passBy text job) (byNode (job .turn)) (job .on) (spot (at .label) (at .end) i) text β c β′ r → r ≡ Going c′ → Rising (β′ .cells) (i + 1) (at .end)
     standing-rising {β′} v e =
-        let q = passing-more (passBy text job) (collapses (job .turn)) (job .on) (at .label) (at .index) (at .end) text β₀ c₀ (p .ends) (w .passing) l (visit-going v e) in
+        let q = passing-more (passBy text job) (byNode (job .turn)) (job .on) (at .label) (at .index) (at .end) text β₀ c₀ (p .ends) (w .passing) l (visit-going v e) in
         ahead-rising β₀ β′ (q .low) (λ j a b. q .ahead j a (omega (arith, p .ends))) (p .ordered)
 
-    pub skip-next : {β′ : Buffers} {r : Done} {c′ : Counters} → Visit (passBy text job) (collapses (job .turn)) (job .on) (spot (at .label) (at .end) i) text β c β′ r → r ≡ Going c′
+    pub skip-next : {β′ : Buffers} {r : Done} {c′ : Counters} → Visit (passBy text job) (byNode (job .turn)) (job .on) (spot (at .label) (at .end) i) text β c β′ r → r ≡ Going c′
         → (i + 1 ≤ at .end) × (at .end * 8 ≤ length (β′ .cells)) × (at .end ≤ 4096) × Rising (β′ .cells) (i + 1) (at .end)
     skip-next v e =
         let d = visit-going v e .held in
         (omega arith, omega (arith, p .ends, d .good .rows), omega (arith, p .ends, d .marks), standing-rising v e)
 
-    pub standing-more : {β′ : Buffers} {r : Done} {c′ : Counters} → Visit (passBy text job) (collapses (job .turn)) (job .on) (spot (at .label) (at .end) i) text β c β′ r → r ≡ Going c′
+    pub standing-more : {β′ : Buffers} {r : Done} {c′ : Counters} → Visit (passBy text job) (byNode (job .turn)) (job .on) (spot (at .label) (at .end) i) text β c β′ r → r ≡ Going c′
         → {j : ℕ} → Skipped (job .aim) (asLabel (at .label)) (β′ .named) (β′ .cells) (i + 1) (at .end) j → Standing text job at j β₀ c₀ β′ c′
-    standing-more v e k = skipped-to k (passing-more (passBy text job) (collapses (job .turn)) (job .on) (at .label) (at .index) (at .end) text β₀ c₀ (p .ends) (w .passing) l (visit-going v e))
+    standing-more v e k = skipped-to k (passing-more (passBy text job) (byNode (job .turn)) (job .on) (at .label) (at .index) (at .end) text β₀ c₀ (p .ends) (w .passing) l (visit-going v e))
 
-    pub standing-stop : {β′ : Buffers} {r : Done} {x : Refusal} → Visit (passBy text job) (collapses (job .turn)) (job .on) (spot (at .label) (at .end) i) text β c β′ r → r ≡ Stopped x
-        → LeavesPassed (passBy text job) (collapses (job .turn)) (job .on) at text β₀ c₀ β′ (Stopped x)
-    standing-stop v e = record { out = passing-stop (passBy text job) (collapses (job .turn)) (job .on) (at .label) (at .index) (at .end) text β₀ c₀ (p .ends) (w .passing) l (visit-stopped v e) }
+    pub standing-stop : {β′ : Buffers} {r : Done} {x : Refusal} → Visit (passBy text job) (byNode (job .turn)) (job .on) (spot (at .label) (at .end) i) text β c β′ r → r ≡ Stopped x
+        → LeavesPassed (passBy text job) (byNode (job .turn)) (job .on) at text β₀ c₀ β′ (Stopped x)
+    standing-stop v e = record { out = passing-stop (passBy text job) (byNode (job .turn)) (job .on) (at .label) (at .index) (at .end) text β₀ c₀ (p .ends) (w .passing) l (visit-stopped v e) }
 
-  pub standing-end : {i : ℕ} {β : Buffers} {c : Counters} → Standing text job at i β₀ c₀ β c → at .end ≤ i → LeavesPassed (passBy text job) (collapses (job .turn)) (job .on) at text β₀ c₀ β (Going c)
-  standing-end w l = record { out = passing-done (passBy text job) (collapses (job .turn)) (job .on) (at .label) (at .index) (at .end) text β₀ c₀ l (w .passing) }
+  pub standing-end : {i : ℕ} {β : Buffers} {c : Counters} → Standing text job at i β₀ c₀ β c → at .end ≤ i → LeavesPassed (passBy text job) (byNode (job .turn)) (job .on) at text β₀ c₀ β (Going c)
+  standing-end w l = record { out = passing-done (passBy text job) (byNode (job .turn)) (job .on) (at .label) (at .index) (at .end) text β₀ c₀ l (w .passing) }
 
 -- ---- all segments
 
 -- those before segment k are passed, and the turn enters segment k
 pub record Coming (text : Text) (job : Job) (segs : List ℕ) (k : ℕ) (β₀ : Buffers) (c₀ : Counters) (β : Buffers) (c : Counters) : Type 0 where
-  pub turning : Turning (passBy text job) (collapses (job .turn)) (job .on) segs k text β₀ c₀ β c
+  pub turning : Turning (passBy text job) (byNode (job .turn)) (job .on) segs k text β₀ c₀ β c
   pub here : k < job .on .segments → enters (job .aim) (labelAt segs k) ≡ true
 
 -- .. in the variables of the loop
@@ -229,20 +229,20 @@ module _ {text : Text} {job : Job} (h : JobHeld text job) (segs : List ℕ) (z :
   unfolding passBy labelAt nameAt
   still-there β c j e = still-segment (job .on .key) (job .on .separators) text (knowing text β c) (labelAt segs j) refl (job .turn) (h .held) (rw (h .aim) at e)
 
-  coming-to : {k r : ℕ} {β : Buffers} {c : Counters} → SegmentsSkipped (job .aim) segs k (job .on .segments) r → Turning (passBy text job) (collapses (job .turn)) (job .on) segs k text β₀ c₀ β c → Coming text job segs r β₀ c₀ β c
+  coming-to : {k r : ℕ} {β : Buffers} {c : Counters} → SegmentsSkipped (job .aim) segs k (job .on .segments) r → Turning (passBy text job) (byNode (job .turn)) (job .on) segs k text β₀ c₀ β c → Coming text job segs r β₀ c₀ β c
   coming-to {β = β} {c = c} s w = record {
-    turning = turning-still (passBy text job) (collapses (job .turn)) (job .on) segs text z β₀ c₀ (s .low) (s .high) (λ j a b. still-there β c j (s .idle j a b)) w;
+    turning = turning-still (passBy text job) (byNode (job .turn)) (job .on) segs text z β₀ c₀ (s .low) (s .high) (λ j a b. still-there β c j (s .idle j a b)) w;
     here = s .here;
   }
 
   pub coming-start : Ahead text job 0 β₀ c₀ → {k : ℕ} → SegmentsSkipped (job .aim) segs 0 (job .on .segments) k → Coming text job segs k β₀ c₀ β₀ c₀
-  coming-start a s = coming-to s (turning-start (passBy text job) (collapses (job .turn)) (job .on) segs text z β₀ c₀ (a .held) (a .funded))
+  coming-start a s = coming-to s (turning-start (passBy text job) (byNode (job .turn)) (job .on) segs text z β₀ c₀ (a .held) (a .funded))
 
   module _ {k : ℕ} {β : Buffers} {c : Counters} (w : Coming text job segs k β₀ c₀ β c) (l : k < job .on .segments) {at : Spot} (q : SpotIs segs k at) where
     pub coming-passable : AllOrdered segs (β₀ .cells) (job .on .segments) → Passable job at (β .cells)
     coming-passable o =
-        let low = segment-low (passBy text job) (collapses (job .turn)) (job .on) segs text z β₀ c₀ (w .turning) l in
-        let high = segment-high (passBy text job) (collapses (job .turn)) (job .on) segs text z β₀ c₀ (w .turning) l in
+        let low = segment-low (passBy text job) (byNode (job .turn)) (job .on) segs text z β₀ c₀ (w .turning) l in
+        let high = segment-high (passBy text job) (byNode (job .turn)) (job .on) segs text z β₀ c₀ (w .turning) l in
         record {
           enters = rw (q .label) (w .here l);
           order = rw (q .first, q .end) low;
@@ -253,16 +253,16 @@ module _ {text : Text} {job : Job} (h : JobHeld text job) (segs : List ℕ) (z :
     pub coming-ahead : Ahead text job (at .index) β c
     coming-ahead = record { held = w .turning .held; funded = rw (q .first) (w .turning .funded) }
 
-    pub coming-more : {β′ : Buffers} {r : Done} {c′ : Counters} → LeavesPassed (passBy text job) (collapses (job .turn)) (job .on) at text β c β′ r → r ≡ Going c′
+    pub coming-more : {β′ : Buffers} {r : Done} {c′ : Counters} → LeavesPassed (passBy text job) (byNode (job .turn)) (job .on) at text β c β′ r → r ≡ Going c′
         → {j : ℕ} → SegmentsSkipped (job .aim) segs (k + 1) (job .on .segments) j → Coming text job segs j β₀ c₀ β′ c′
     coming-more v e s =
         let u = rw (q .label, q .first, q .end) at (passed-going v e) in
-        coming-to s (turning-more (passBy text job) (collapses (job .turn)) (job .on) segs text z β₀ c₀ (w .turning) l u)
+        coming-to s (turning-more (passBy text job) (byNode (job .turn)) (job .on) segs text z β₀ c₀ (w .turning) l u)
 
-    pub coming-stop : {β′ : Buffers} {r : Done} {x : Refusal} → LeavesPassed (passBy text job) (collapses (job .turn)) (job .on) at text β c β′ r → r ≡ Stopped x → TurnTaken (passBy text job) (job .on) segs text β₀ c₀ β′ (Stopped x)
+    pub coming-stop : {β′ : Buffers} {r : Done} {x : Refusal} → LeavesPassed (passBy text job) (byNode (job .turn)) (job .on) at text β c β′ r → r ≡ Stopped x → TurnTaken (passBy text job) (job .on) segs text β₀ c₀ β′ (Stopped x)
     coming-stop v e =
         let u = rw (q .label, q .first, q .end) at (passed-stopped v e) in
-        record { out = turning-stop (passBy text job) (collapses (job .turn)) (job .on) segs text z β₀ c₀ (w .turning) l u }
+        record { out = turning-stop (passBy text job) (byNode (job .turn)) (job .on) segs text z β₀ c₀ (w .turning) l u }
 
   pub coming-end : {k : ℕ} {β : Buffers} {c : Counters} → Coming text job segs k β₀ c₀ β c → job .on .segments ≤ k → TurnTaken (passBy text job) (job .on) segs text β₀ c₀ β (Going c)
-  coming-end w l = record { out = turning-done (passBy text job) (collapses (job .turn)) (job .on) segs text z β₀ c₀ l (w .turning) }
+  coming-end w l = record { out = turning-done (passBy text job) (byNode (job .turn)) (job .on) segs text z β₀ c₀ l (w .turning) }

@@ -14,7 +14,7 @@ use Rattle.redact_5_act.specs.declared.state.Done.the-variants.{Going, Stopped}
 use Rattle.redact_4_leaf.specs.Walk.{Pass, LeavesTo, segmentOf, SegmentsTo, AllDone}
 use Rattle.redact_4_leaf.specs.State.{Buffers, leaves, knowing, marked, Books, Held, Kept, Funded}
 use Rattle.redact_4_leaf.specs.declared.leaf.Spot.{Spot}
-use Rattle.redact_2_turn.specs.Turn.{collapses, enters, works}
+use Rattle.redact_2_turn.specs.Turn.{byNode, enters, works}
 use Rattle.redact_2_turn.specs.Ordered.{Ordered}
 use Rattle.redact_2_turn.specs.declared.turn.Job.{Job}
 
@@ -23,7 +23,7 @@ use Rattle.redact_2_turn.specs.declared.turn.Job.{Job}
 -- of the buffers, before leaf i
 pub record Ahead (text : Text) (job : Job) (i : ℕ) (β : Buffers) (c : Counters) : Type 0 where
   pub held : Held text (job .on .leaves) β c
-  pub funded : Funded (collapses (job .turn)) (β .cells) i (job .on .leaves) c
+  pub funded : Funded (byNode (job .turn)) (β .cells) i (job .on .leaves) c
 
 -- of a leaf that is visited
 pub record Visitable (text : Text) (job : Job) (at : Spot) (β : Buffers) (c : Counters) : Type 0 where

@@ -37,12 +37,12 @@ unfoldable pub passBy : Text → Job → List Known → Pass
 passBy text job ks = passOf (job .on .key) (job .on .separators) text ks (job .turn)
 
 -- whether it collapses nodes
-unfoldable pub collapses : Turn → Bool
-collapses (Apply r) = false
-collapses (Collapse r) = true
-collapses (Reject a) = false
-collapses Sweep = false
-collapses Idle = false
+unfoldable pub byNode : Turn → Bool
+byNode (Apply r) = false
+byNode (Collapse r) = true
+byNode (Reject a) = false
+byNode Sweep = false
+byNode Idle = false
 
 -- ---- what a turn looks at
 

@@ -2,7 +2,7 @@
 use er7::message::Label;
 use er7::path::Path;
 use er7_redact::action::Action;
-use er7_redact::action::is_null;
+use er7_redact::action::is_null_action;
 use er7_redact::policy::Rule;
 use er7_table::table::label_at;
 use er7_table::table::place_at;
@@ -27,7 +27,7 @@ ghost use Rattle.redact_5_act.specs.State.{counted, afterStep};
 ghost use Rattle.redact_4_leaf.specs.State.{buffers};
 ghost use Rattle.redact_4_leaf.specs.Visit.{Visit};
 ghost use Rattle.redact_2_turn.specs.Turn as Turns;
-ghost use Rattle.redact_2_turn.specs.Turn.{noPath, aimAt, aimUnnamed, aimOf, works, collapses, passBy, TurnHeld, JobHeld};
+ghost use Rattle.redact_2_turn.specs.Turn.{noPath, aimAt, aimUnnamed, aimOf, works, byNode, passBy, TurnHeld, JobHeld};
 ghost use Rattle.redact_2_turn.specs.Ordered.{Rising, AllOrdered, StartAt, isBehind, Skipped, SegmentsSkipped, spotAt, SpotIs};
 ghost use Rattle.redact_2_turn.specs.Taken.{Ahead, Visitable, Passable, LeavesPassed, TurnTaken};
 
@@ -129,7 +129,7 @@ pub fn aim_of(turn: Turn, text: &[u8]) -> Aim
     match turn {
         Turn::Apply(rule) => aim_at(rule.path, text),
         Turn::Collapse(rule) => aim_at(rule.path, text),
-        Turn::Reject(a) => aim_unnamed(true, is_null(a)),
+        Turn::Reject(a) => aim_unnamed(true, is_null_action(a)),
         Turn::Sweep => aim_unnamed(true, false),
         Turn::Idle => aim_unnamed(false, false),
     }
@@ -235,7 +235,7 @@ fn visit(
     tally: &mut [usize; 6],
 ) -> Step
     requires { ⌜ JobHeld (now text) job × Visitable (now text) job at (buffers (now named) (now cells) (now store) (now report) (now bytes) (now known)) (counted (now tally)) ⌝ }
-    ensures { λ r. ⌜ Visit (passBy (now (text .entry)) job) (collapses (job .turn)) (job .on) at (now (text .entry)) (buffers (now (named .entry)) (now (cells .entry)) (now (store .entry)) (now (report .entry)) (now (bytes .entry)) (now (known .entry))) (counted (now (tally .entry))) (buffers (now (named .exit)) (now (cells .exit)) (now (store .exit)) (now (report .exit)) (now (bytes .exit)) (now (known .exit))) (afterStep (counted (now (tally .exit))) r) ⌝ }
+    ensures { λ r. ⌜ Visit (passBy (now (text .entry)) job) (byNode (job .turn)) (job .on) at (now (text .entry)) (buffers (now (named .entry)) (now (cells .entry)) (now (store .entry)) (now (report .entry)) (now (bytes .entry)) (now (known .entry))) (counted (now (tally .entry))) (buffers (now (named .exit)) (now (cells .exit)) (now (store .exit)) (now (report .exit)) (now (bytes .exit)) (now (known .exit))) (afterStep (counted (now (tally .exit))) r) ⌝ }
 {
     let on = job.on;
     let turn = job.turn;
@@ -299,7 +299,7 @@ fn pass_leaves(
     tally: &mut [usize; 6],
 ) -> Step
     requires { ⌜ JobHeld (now text) job × Passable job at (now cells) × Ahead (now text) job (at .index) (buffers (now named) (now cells) (now store) (now report) (now bytes) (now known)) (counted (now tally)) ⌝ }
-    ensures { λ r. ⌜ LeavesPassed (passBy (now (text .entry)) job) (collapses (job .turn)) (job .on) at (now (text .entry)) (buffers (now (named .entry)) (now (cells .entry)) (now (store .entry)) (now (report .entry)) (now (bytes .entry)) (now (known .entry))) (counted (now (tally .entry))) (buffers (now (named .exit)) (now (cells .exit)) (now (store .exit)) (now (report .exit)) (now (bytes .exit)) (now (known .exit))) (afterStep (counted (now (tally .exit))) r) ⌝ }
+    ensures { λ r. ⌜ LeavesPassed (passBy (now (text .entry)) job) (byNode (job .turn)) (job .on) at (now (text .entry)) (buffers (now (named .entry)) (now (cells .entry)) (now (store .entry)) (now (report .entry)) (now (bytes .entry)) (now (known .entry))) (counted (now (tally .entry))) (buffers (now (named .exit)) (now (cells .exit)) (now (store .exit)) (now (report .exit)) (now (bytes .exit)) (now (known .exit))) (afterStep (counted (now (tally .exit))) r) ⌝ }
 {
     let aim = job.aim;
     let g = at.label;

@@ -18,7 +18,7 @@ use Rattle.message_model.specs.Message.{Leaf, leaf, Label}
 use Rattle.run_model.specs.Redact.{covers, reach, each-leaf, isNode, stays, after, act, fateIn, fate, row, Event, changing, learning, took, size, ruleLeaf, ruleEvents}
 use Rattle.run_model.proofs.InStep.{keep-is, keep-stays}
 use Rattle.er7_table.specs.Table.{cell, listOf, placeAt, leafAt, asLabel}
-use Rattle.redact_5_act.specs.Act.{LeafRoom}
+use Rattle.redact_5_act.specs.Act.{ActRoom}
 use Rattle.redact_5_act.specs.Known.{GoodKnown}
 use Rattle.redact_5_act.specs.declared.state.Setting.{Setting}
 use Rattle.redact_5_act.specs.declared.state.Counters.{Counters}

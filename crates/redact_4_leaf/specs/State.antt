@@ -11,7 +11,7 @@ use Rattle.run_model.specs.Redact.{Fate, after, Row, Event, changing, Known, Bo
 use Rattle.er7_table.specs.Table.{cell, placeAt, textAt, leafAt, Good}
 use Rattle.er7_render.specs.Stored.{TextSet, liveLen, liveSum}
 use Rattle.redact_6_row.specs.Report.{RowAt, Reported}
-use Rattle.redact_5_act.specs.Act.{LeafRoom}
+use Rattle.redact_5_act.specs.Act.{ActRoom}
 use Rattle.redact_5_act.specs.Known.{knownFrom, GoodKnown, ActionsHeld}
 use Rattle.redact_5_act.specs.declared.state.Counters.{Counters}
 use Rattle.redact_5_act.specs.declared.state.Done.{Done}
@@ -115,7 +115,7 @@ pub record Ready (cells : List ℕ) (store : Text) (n i : ℕ) (c : Counters) : 
   pub inside : i < n
   pub good : Good cells store n (c .used)
   pub live : cell cells i 3 ≡ 0
-  pub room : LeafRoom (cell cells i 2) c
+  pub room : ActRoom (cell cells i 2) c
   pub rows : c .rows ≤ 2 ^ 32
   pub report : c .«report_len» ≤ 2 ^ 48
 

@@ -22,13 +22,13 @@ use Rattle.run_model.specs.Redact.{Fate, stays, becomes, replaced, act}
 use Rattle.redact_5_act.specs.declared.act.Fate.{Fate as HeldFate}
 use Rattle.redact_5_act.specs.declared.act.Fate.the-variants.{Stays, Becomes, TooLong}
 use Rattle.redact_5_act.specs.declared.state.Counters.{Counters}
-use Rattle.redact_5_act.specs.Act.{Became, Overran, ActedOr, Acted, ActedBeside, LeafRoom}
+use Rattle.redact_5_act.specs.Act.{Became, Overran, ActedOr, Acted, ActedBeside, ActRoom}
 use Rattle.redact_5_act.specs.Inner.{nulled, onValue, decodedAt, Decoded, Fits}
 
 -- ---- room
 
 -- what leaves the message short enough has room behind the texts in the store
-pub room-fits : {len : ℕ} {c : Counters} (n : ℕ) → LeafRoom len c → c .size - len + n ≤ 49152 → c .used + n ≤ 98304
+pub room-fits : {len : ℕ} {c : Counters} (n : ℕ) → ActRoom len c → c .size - len + n ≤ 49152 → c .used + n ≤ 98304
 room-fits n h l = omega (arith, h .within, h .most, h .room)
 
 -- ---- each answer
@@ -64,7 +64,7 @@ acted-beside {r = r} e h = record { out = or-as _ _ _ e same-all r (h .out); bes
 long-as : (s : Separators) {t : Text} (v : Text) {m : ℕ} → t ≡ v → m ≡ length (encode s t) → m ≡ length (encode s v)
 long-as s v e h = h ∙ ap (λ (x : Text). length (encode s x)) e
 
-pub escaped-room : (s : Separators) {went : ℕ} {c : Counters} {t : Text} (u : Text) {m : ℕ} → u ≡ t → m ≡ length (encode s t) → ltb 49152 (c .size - went + m) ≡ false → LeafRoom went c
+pub escaped-room : (s : Separators) {went : ℕ} {c : Counters} {t : Text} (u : Text) {m : ℕ} → u ≡ t → m ≡ length (encode s t) → ltb 49152 (c .size - went + m) ≡ false → ActRoom went c
     → c .used + length (encode s u) ≤ 98304
 escaped-room s {went} {c} {t} u {m} i h q g = room-fits (length (encode s u)) g (rw i (rw (← h) (ltb-false 49152 (c .size - went + m) q)))
 
@@ -116,7 +116,7 @@ module _ (s : Separators) (o : Option Text) (v : Text) where
     pub replaced-some : replaced s o v ≡ replaced s (some (written o)) v
     replaced-some = ap (λ (x : Option Text). replaced s x v) (answered-text o e)
 
-    pub applied-over : {went : ℕ} {c : Counters} → length v ≤ went → LeafRoom went c → ltb 49152 (c .size - went + n) ≡ true → Overran (replaced s o v) went c
+    pub applied-over : {went : ℕ} {c : Counters} → length v ≤ went → ActRoom went c → ltb 49152 (c .size - went + n) ≡ true → Overran (replaced s o v) went c
     applied-over {went} {c} l h q =
         let x = ltb-true 49152 (c .size - went + n) q in
         rw replaced-some (replaced-over s (written o) v l (h .within) (h .most) (omega (arith, answered-length o e)))
@@ -126,7 +126,7 @@ applied-fits o {n} {went} {c} e q = let x = ltb-false 49152 (c .size - went + n)
 
 -- .. which is not too much to be counted
 pub applied-sum : (key : ℕ) (x : Text) (a : HeldAction) (v : Text) {n went : ℕ} {c : Counters} → answer (apply key (asAction x a) v) ≡ Written n → ActionHeld x a → length x < 2 ^ 63
-    → length v ≤ went → LeafRoom went c → c .size + n < 2 ^ 64
+    → length v ≤ went → ActRoom went c → c .size + n < 2 ^ 64
 applied-sum key x a v e g l i h = omega (arith, answered-room (apply key (asAction x a) v) e, room-most key x a v g, h .within, h .most)
 
 -- what was written of it stands in the store d′ up to index r, and is read from there
@@ -149,7 +149,7 @@ decoded-short g = simp length-take (omega (arith, g .high))
 
 -- the value of t was written to the bytes behind the learnt values, which left b′
 module _ (s : Separators) (t : Text) (c : Counters) {b b′ : Text} {to : ℕ} (w : Wrote b (c .«known_used») (value s t) b′ to) where
-  pub value-decoded : {len : ℕ} → length t ≤ len → LeafRoom len c → Decoded b′ to len c
+  pub value-decoded : {len : ℕ} → length t ≤ len → ActRoom len c → Decoded b′ to len c
   value-decoded l h = record { low = omega (arith, w .end); high = omega (arith, w .end, value-length s t); room = omega (arith, w .end, value-length s t, h .within, h .most, h .beside) }
 
   value-is : decodedAt b′ to c ≡ value s t

@@ -38,7 +38,7 @@ pub record ActedBeside (f : Fate) (went : ℕ) (c : Counters) (d d′ bytes byte
   pub beside : SameTo (c .«known_used») bytes bytes′
 
 -- the store has room for a text in the place of a leaf of len bytes, and so have the bytes behind the learnt values
-pub record LeafRoom (len : ℕ) (c : Counters) : Type 0 where
+pub record ActRoom (len : ℕ) (c : Counters) : Type 0 where
   pub within : len ≤ c .size
   pub most : c .size ≤ 49152
   pub room : c .used + len ≤ 49152 + c .size
@@ -47,4 +47,4 @@ pub record LeafRoom (len : ℕ) (c : Counters) : Type 0 where
 -- .. and the leaf stands there from index `start` on
 pub record LeafHeld (start len : ℕ) (c : Counters) : Type 0 where
   pub inside : start + len ≤ c .used
-  pub room : LeafRoom len c
+  pub room : ActRoom len c

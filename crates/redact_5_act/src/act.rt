@@ -19,7 +19,7 @@ ghost use Rattle.er7_redact.specs.Action as Actions;
 ghost use Rattle.message_model.specs.Value.{NULL, encode};
 ghost use Rattle.run_model.specs.Redact.{becomes, replaced};
 ghost use Rattle.run_model.specs.Redact as Spec;
-ghost use Rattle.redact_5_act.specs.Act.{Acted, ActedBeside, LeafRoom, LeafHeld};
+ghost use Rattle.redact_5_act.specs.Act.{Acted, ActedBeside, ActRoom, LeafHeld};
 ghost use Rattle.redact_5_act.specs.Inner.{nulled, onValue, decodedAt, Decoded, Fits};
 
 // What becomes of a leaf: its text stays, or is of that length, or would leave the message too long.
@@ -52,7 +52,7 @@ fn put_escaped(
     bytes: &mut [u8; 65536],
     c: Counters,
 ) -> Fate
-    requires { ⌜ LeafRoom len c × (c .used + n ≤ 98304) × (n ≤ 49152) ⌝ }
+    requires { ⌜ ActRoom len c × (c .used + n ≤ 98304) × (n ≤ 49152) ⌝ }
     ensures { λ r. ⌜ ActedBeside (becomes (encode s (part (now (store .entry)) (c .used) n))) len c (now (store .entry)) (now (store .exit)) (now (bytes .entry)) (now (bytes .exit)) r ⌝ }
 {
     let used = c.used;
@@ -84,7 +84,7 @@ fn put_value(
     bytes: &mut [u8; 65536],
     c: Counters,
 ) -> Fate
-    requires { ⌜ ActionHeld (now text) a × LeafRoom len c × Decoded (now bytes) to len c × Fits (Actions.apply (on .key) (asAction (now text) a) (decodedAt (now bytes) to c)) len c ⌝ }
+    requires { ⌜ ActionHeld (now text) a × ActRoom len c × Decoded (now bytes) to len c × Fits (Actions.apply (on .key) (asAction (now text) a) (decodedAt (now bytes) to c)) len c ⌝ }
     ensures { λ r. ⌜ ActedBeside (replaced (on .separators) (some (written (Actions.apply (on .key) (asAction (now (text .entry)) a) (decodedAt (now (bytes .entry)) to c)))) (decodedAt (now (bytes .entry)) to c)) len c (now (store .entry)) (now (store .exit)) (now (bytes .entry)) (now (bytes .exit)) r ⌝ }
 {
     let from = c.known_used;
@@ -109,7 +109,7 @@ fn put_applied(
     bytes: &mut [u8; 65536],
     c: Counters,
 ) -> Fate
-    requires { ⌜ ActionHeld (now text) a × LeafRoom len c × Decoded (now bytes) to len c ⌝ }
+    requires { ⌜ ActionHeld (now text) a × ActRoom len c × Decoded (now bytes) to len c ⌝ }
     ensures { λ r. ⌜ ActedBeside (replaced (on .separators) (Actions.apply (on .key) (asAction (now (text .entry)) a) (decodedAt (now (bytes .entry)) to c)) (decodedAt (now (bytes .entry)) to c)) len c (now (store .entry)) (now (store .exit)) (now (bytes .entry)) (now (bytes .exit)) r ⌝ }
 {
     let from = c.known_used;
@@ -173,7 +173,7 @@ pub fn act(
     requires { ⌜ ActionHeld (now text) a × LeafHeld start len c ⌝ }
     ensures { λ r. ⌜ ActedBeside (Spec.act (on .key) (on .separators) (asAction (now (text .entry)) a) (part (now (store .entry)) start len)) len c (now (store .entry)) (now (store .exit)) (now (bytes .entry)) (now (bytes .exit)) r ⌝ }
 {
-    if action::is_null(a) {
+    if action::is_null_action(a) {
         return act_null(start, len, store, c);
     }
     let end = start + len;

@@ -2,7 +2,7 @@
 use er7::message::Label;
 use er7::message::Place;
 use er7::path::Path;
-use er7_redact::action::is_null;
+use er7_redact::action::is_null_action;
 use er7_redact::policy::Rule;
 ghost use mathlib.Core.Path.{_≡_};
 ghost use Rattle.text.specs.Text.{Text};
@@ -64,7 +64,7 @@ pub fn reach_of(rule: Rule) -> Reach
 {
     let action = rule.action;
     let path = rule.path;
-    if is_null(action) & (path.subcomponent == 0) {
+    if is_null_action(action) & (path.subcomponent == 0) {
         return node_of(path);
     }
     Reach::EachLeaf

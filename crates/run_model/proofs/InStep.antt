@@ -18,7 +18,7 @@ use Rattle.message_model.specs.Value.{isNull, isEmptyOrNull, value}
 use Rattle.run_model.specs.Redact.{covers, Depth, Reach, each-leaf, each-node, reach, isNode, starts, restOfNode, Fate, stays, vanishes, becomes, after, moved, replaced, act, isNil, collapse, fateIn, fate, Row, row, Event, learn, change, changing, learning, took, ruleLeaf, ruleEvents, overLeaves, leavesEvents, segmentsEvents, afterRule, afterRules, rulesEvents}
 use Rattle.run_model.specs.Table.{rowsOf}
 use Rattle.run_model.specs.Counts.{ruleTurns, rowCounts}
-use Rattle.run_model.specs.Demand.{atLeaf, at, text, textAt, works, worksAt, collapses, ChangedAt, SettledAt}
+use Rattle.run_model.specs.Demand.{atLeaf, at, text, textAt, acts, actsAt, collapsed, ChangedAt, SettledAt}
 
 -- ---- two lists of leaves of one shape
 
@@ -235,7 +235,7 @@ module _ (key : ℕ) (s : Separators) where
   abbrev Fair : Rule → Label → List Leaf → List Leaf → ℕ → Type 0
   Fair r g xs ys j =
       (atLeaf none text g xs j ≡ atLeaf none text g ys j)
-      ⊎ cond (atLeaf false (works r) g xs j) (T (atLeaf false (moves r) g xs j) × T (atLeaf false (moves r) g ys j)) (Unit {0})
+      ⊎ cond (atLeaf false (acts r) g xs j) (T (atLeaf false (moves r) g xs j) × T (atLeaf false (moves r) g ys j)) (Unit {0})
 
   rows-leaf : (r : Rule) (g : Label) (p : Place) (n : Bool) (t u : Text) {xs ys : List Leaf} → SameShape xs ys
       → Fair r g (leaf p n (some t) ∷ xs) (leaf p n (some u) ∷ ys) zero
@@ -274,7 +274,7 @@ holds-right false c h = absurd h
 
 module _ (key : ℕ) (s : Separators) (r : Rule) where
   changed-in : (g : Label) (xs : List Leaf) (j : ℕ)
-      → (atLeaf none text g xs j ≡ atLeaf none text g (overLeaves (ruleLeaf key s r) g xs) j → ⊥) ⊎ T (atLeaf false (collapses key s r) g xs j)
+      → (atLeaf none text g xs j ≡ atLeaf none text g (overLeaves (ruleLeaf key s r) g xs) j → ⊥) ⊎ T (atLeaf false (collapsed key s r) g xs j)
       → T (atLeaf false (moves key s r) g xs j)
   unfolding ruleLeaf
   changed-in g [] j (inl h) = absurd (h refl)
@@ -294,7 +294,7 @@ module _ (key : ℕ) (s : Separators) (r : Rule) where
 
   abbrev FairAt : List Segment → List Segment → ℕ → ℕ → Type 0
   FairAt a b i j =
-      (textAt a i j ≡ textAt b i j) ⊎ cond (worksAt r a i j) (T (at false (moves key s r) a i j) × T (at false (moves key s r) b i j)) (Unit {0})
+      (textAt a i j ≡ textAt b i j) ⊎ cond (actsAt r a i j) (T (at false (moves key s r) a i j) × T (at false (moves key s r) b i j)) (Unit {0})
 
   rows-segs : {a b : List Segment} → SameShapes a b → ((i j : ℕ) → FairAt a b i j) → rowsOf (segmentsEvents (ruleEvents key s r) a) ≡ rowsOf (segmentsEvents (ruleEvents key s r) b)
   rows-segs end H = refl
@@ -329,12 +329,12 @@ module _ (key : ℕ) (s : Separators) where
   good-fair : (r : Rule) (rs : List Rule) (a b : List Segment) (i j : ℕ) → Good (r ∷ rs) a b i j → FairAt key s r a b i j
   good-fair r rs a b i j (inl e) = inl e
   good-fair r rs a b i j (inr h) =
-      inr (cond-fair _ _ _ _ _ _ (worksAt r a i j) (changed-moves key s r a i j) (changed-moves key s r b i j) h)
+      inr (cond-fair _ _ _ _ _ _ (actsAt r a i j) (changed-moves key s r a i j) (changed-moves key s r b i j) h)
 
   good-next : (r : Rule) (rs : List Rule) (a b : List Segment) → SameShapes a b → (i j : ℕ) → Good (r ∷ rs) a b i j
       → Good rs (afterRule key s r a) (afterRule key s r b) i j
   good-next r rs a b v i j (inl e) = inl (turn-textAt key s r v i j e)
-  good-next r rs a b v i j (inr h) = cond-left _ _ _ _ (worksAt r a i j) h
+  good-next r rs a b v i j (inr h) = cond-left _ _ _ _ (actsAt r a i j) h
 
   good-end : (a b : List Segment) (i j : ℕ) → Good [] a b i j → textAt a i j ≡ textAt b i j
   good-end a b i j (inl e) = e

@@ -1,5 +1,5 @@
 -- Demand 3's premises can be met, with the sweep on and two different messages: where a rule changes the one leaf that differs, where
--- it is kept before it collapses, and where leaves vanish that a later rule still covers. And without either of the two provisos two
+-- it is kept before it is collapsed, and where leaves vanish that a later rule still covers. And without either of the two provisos two
 -- calls may differ. Assumes nothing.
 use mathlib.Core.Path.{_≡_, refl, subst}
 use mathlib.Core.Logic.{inl, inr, ⊎-elim}
@@ -117,8 +117,8 @@ premises-met = (calls, settled, inr (quiet-first, quiet-second), λ e. absurd (s
 
 -- ---- an instance: `""^x` and `a^x`, kept and then collapsed. Keep is passed by, and the null that was there counts as changed
 
-abbrev collapses : Text
-collapses = bytes "PID-1 keep\nPID-1 null\nreject mask"
+abbrev collapsing : Text
+collapsing = bytes "PID-1 keep\nPID-1 null\nreject mask"
 
 abbrev K : Policy
 K = record { rules = firstField keep ∷ firstField null ∷ []; posture = reject (mask 0x2a); unrecognised = refuse; sweep = true }
@@ -130,7 +130,7 @@ abbrev full : Text
 full = bytes "MSH|^~\\&\rPID|a^x"
 
 pub keep-passed :
-    TwoCalls collapses 0 K nulled full (lent 65536) (lent 65536) × Settled 0 K (messageOf nulled) (messageOf full)
+    TwoCalls collapsing 0 K nulled full (lent 65536) (lent 65536) × Settled 0 K (messageOf nulled) (messageOf full)
     × Unswept 0 K (messageOf nulled) (messageOf full) × (nulled ≡ full → ⊥)
 unfolding computes
 keep-passed = (

@@ -46,26 +46,26 @@ DifferAt a b i j = textAt a i j ≡ textAt b i j → ⊥
 -- ---- "the first covering action other than keep changed the leaf in both and left the same text"
 
 -- the rule covers the leaf with an action other than keep
-abbrev pub works : Rule → Label → Leaf → List Leaf → Bool
-works r g (leaf p n t) xs = covers r g p && not (isKeep (r .action))
+abbrev pub acts : Rule → Label → Leaf → List Leaf → Bool
+acts r g (leaf p n t) xs = covers r g p && not (isKeep (r .action))
 
-abbrev pub worksAt : Rule → List Segment → ℕ → ℕ → Bool
-worksAt r ss i j = at false (works r) ss i j
+abbrev pub actsAt : Rule → List Segment → ℕ → ℕ → Bool
+actsAt r ss i j = at false (acts r) ss i j
 
 -- "in a collapse every leaf of the node vanishes", its first included
-abbrev pub collapses : ℕ → Separators → Rule → Label → Leaf → List Leaf → Bool
-collapses key s r g (leaf p n none) xs = false
-collapses key s r g (leaf p n (some t)) xs = isNode (reach r) && moved (fate key s r g p t xs)
+abbrev pub collapsed : ℕ → Separators → Rule → Label → Leaf → List Leaf → Bool
+collapsed key s r g (leaf p n none) xs = false
+collapsed key s r g (leaf p n (some t)) xs = isNode (reach r) && moved (fate key s r g p t xs)
 
 -- "An action changed a leaf if its text is another after that rule's turn than before, or if it vanished"
 abbrev pub ChangedAt : ℕ → Separators → Rule → List Segment → ℕ → ℕ → Type 0
-ChangedAt key s r ss i j = DifferAt ss (afterRule key s r ss) i j ⊎ T (at false (collapses key s r) ss i j)
+ChangedAt key s r ss i j = DifferAt ss (afterRule key s r ss) i j ⊎ T (at false (collapsed key s r) ss i j)
 
 -- "and two that both vanished count as left with the same text": the node's first leaf then has the null in both, the others none
 abbrev pub SettledAt : ℕ → Separators → Separators → List Rule → List Segment → List Segment → ℕ → ℕ → Type 0
 SettledAt key s z [] a b i j = ⊥
 SettledAt key s z (r ∷ rs) a b i j =
-    cond (worksAt r a i j)
+    cond (actsAt r a i j)
     (ChangedAt key s r a i j × ChangedAt key z r b i j × (textAt (afterRule key s r a) i j ≡ textAt (afterRule key z r b) i j))
     (SettledAt key s z rs (afterRule key s r a) (afterRule key z r b) i j)
 

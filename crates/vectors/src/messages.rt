@@ -67,7 +67,7 @@ fn put_part(text: &[u8], start: usize, n: usize, out: &mut Page, at: usize) -> u
 }
 
 // Writes leaf j of segment i: its label, its place and its text.
-fn put_leaf(
+fn show_leaf(
     text: &[u8],
     segs: &[usize],
     i: usize,
@@ -97,14 +97,14 @@ fn put_leaves(
     let mut j = first;
     let mut k = at;
     while j < end {
-        k = put_leaf(text, segs, i, cells, j, out, k);
+        k = show_leaf(text, segs, i, cells, j, out, k);
         j += 1;
     }
     k
 }
 
 // Writes segment i, whose leaves stand before leaf end: its leaves, or its label alone.
-fn put_segment(
+fn show_segment(
     text: &[u8],
     segs: &[usize],
     i: usize,
@@ -126,7 +126,7 @@ fn put_segments(text: &[u8], segs: &[usize], n: usize, cells: &[usize], out: &mu
     let mut k = 0;
     let mut i = 0;
     while i < n {
-        k = put_segment(text, segs, i, cell(segs, i + 1, 1), cells, out, k);
+        k = show_segment(text, segs, i, cell(segs, i + 1, 1), cells, out, k);
         i += 1;
     }
     k

@@ -15,9 +15,9 @@ abbrev μ-loop : tie.MeasureT-loop
 loop-holds : tie.Need-loop-holds Inv-loop μ-loop
 loop-holds c = joining-start _ _ _ _ _ (omega arith) (omega arith)
 
-put-leaf-requires : tie.Need-put-leaf-requires Inv-loop μ-loop
+print-leaf-requires : tie.Need-print-leaf-requires Inv-loop μ-loop
 unfolding leavesText
-put-leaf-requires c κs = (leaf-in-store (c .before .before .before .before .before .before .pre .1) _ (omega arith), joining-room (c .before .before .loop .inv) (omega arith) (c .before .before .before .before .before .before .pre .2))
+print-leaf-requires c κs = (leaf-in-store (c .before .before .before .before .before .before .pre .1) _ (omega arith), joining-room (c .before .before .loop .inv) (omega arith) (c .before .before .before .before .before .before .pre .2))
 
 add-i : tie.Need-add-i Inv-loop μ-loop
 add-i c = search needs
@@ -26,7 +26,7 @@ loop-less : tie.Need-loop-less Inv-loop μ-loop
 loop-less c = search needs
 
 loop-again : tie.Need-loop-again Inv-loop μ-loop
-loop-again c = joining-more (c .before .before .before .before .before .loop .inv) (omega arith) (c .before .before .put-leaf .ensures)
+loop-again c = joining-more (c .before .before .before .before .before .loop .inv) (omega arith) (c .before .before .print-leaf .ensures)
 
 same-length : tie.Need-same-length Inv-loop μ-loop
 same-length c = search needs
@@ -42,7 +42,7 @@ put-leaves-spec =
     Inv-loop
     μ-loop
     loop-holds
-    put-leaf-requires
+    print-leaf-requires
     add-i
     loop-less
     loop-again

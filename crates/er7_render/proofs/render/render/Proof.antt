@@ -15,8 +15,8 @@ abbrev μ-loop : tie.MeasureT-loop
 loop-holds : tie.Need-loop-holds Inv-loop μ-loop
 loop-holds c = joining-start _ _ _ _ _ (omega arith) (omega arith)
 
-put-segment-requires : tie.Need-put-segment-requires Inv-loop μ-loop
-put-segment-requires c κs = (in-tables (c .before .before .before .before .before .before .before .pre .0) _ (c .before .if1 .taken), render-room _ _ _ _ (c .before .before .before .loop .inv) (c .before .if1 .taken) (c .before .before .before .before .before .before .before .pre .1))
+print-segment-requires : tie.Need-print-segment-requires Inv-loop μ-loop
+print-segment-requires c κs = (in-tables (c .before .before .before .before .before .before .before .pre .0) _ (c .before .if1 .taken), render-room _ _ _ _ (c .before .before .before .loop .inv) (c .before .if1 .taken) (c .before .before .before .before .before .before .before .pre .1))
 
 add-k : tie.Need-add-k Inv-loop μ-loop
 add-k c = search needs
@@ -25,7 +25,7 @@ loop-less : tie.Need-loop-less Inv-loop μ-loop
 loop-less c = search needs
 
 loop-again : tie.Need-loop-again Inv-loop μ-loop
-loop-again c = joining-more (c .before .before .before .before .before .before .loop .inv) (c .before .before .before .before .if1 .taken) (c .before .before .put-segment .ensures)
+loop-again c = joining-more (c .before .before .before .before .before .before .loop .inv) (c .before .before .before .before .if1 .taken) (c .before .before .print-segment .ensures)
 
 same-length : tie.Need-same-length Inv-loop μ-loop
 same-length c = search needs
@@ -40,7 +40,7 @@ render-spec =
     Inv-loop
     μ-loop
     loop-holds
-    put-segment-requires
+    print-segment-requires
     add-k
     loop-less
     loop-again

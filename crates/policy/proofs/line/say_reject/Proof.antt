@@ -9,8 +9,8 @@ use Rattle.policy.proofs.Lines.{reject-bare, reject-right, reject-wrong
 returns : tie.Need-returns
 returns c = reject-bare _ _ _ (c .if1 .taken)
 
-action-at-requires : tie.Need-action-at-requires
-action-at-requires c κs = search needs
+parse-action-requires : tie.Need-parse-action-requires
+parse-action-requires c κs = search needs
 
 enum-known-a : tie.Need-enum-known-a
 enum-known-a c = search needs
@@ -22,17 +22,17 @@ enum-known-refusal : tie.Need-enum-known-refusal
 enum-known-refusal c = search needs
 
 returns-2 : tie.Need-returns-2
-returns-2 c = reject-right _ _ _ (omega arith) (omega arith) (c .before .before .before .before .action-at .ensures) (c .before .before .a .given .1) (c .rejecting .ensures)
+returns-2 c = reject-right _ _ _ (omega arith) (omega arith) (c .before .before .before .before .parse-action .ensures) (c .before .before .a .given .1) (c .rejecting .ensures)
 
 returns-3 : tie.Need-returns-3
-returns-3 c = reject-wrong _ _ _ (omega arith) (omega arith) (c .before .before .before .action-at .ensures) (c .before .refusal .given .1)
+returns-3 c = reject-wrong _ _ _ (omega arith) (omega arith) (c .before .before .before .parse-action .ensures) (c .before .refusal .given .1)
 
 pub say-reject-spec : {M : Type 1} → statement M
 say-reject-spec =
     tie.close
     (tie.spec
     returns
-    action-at-requires
+    parse-action-requires
     enum-known-a
     rejecting-requires
     enum-known-refusal

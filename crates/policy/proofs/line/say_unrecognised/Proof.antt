@@ -49,8 +49,8 @@ returns-3 : tie.Need-returns-3
 unfolding bytes between
 returns-3 c = unrecognised-pass (c .before .before .before .before .before .before .before .before .before .before .args .text .now) (c .before .before .before .before .before .before .before .before .before .before .args .i) (c .before .before .before .before .before .before .before .before .before .before .args .e) (omega arith) (omega arith) (sym (c .before .before .before .before .before .is-word .ensures) ∙ c .before .before .before .before .if2 .left) (sym (c .before .is-word2 .ensures) ∙ c .if3 .taken)
 
-action-at-requires : tie.Need-action-at-requires
-action-at-requires c κs = search needs
+parse-action-requires : tie.Need-parse-action-requires
+parse-action-requires c κs = search needs
 
 enum-known-a : tie.Need-enum-known-a
 enum-known-a c = search needs
@@ -63,11 +63,11 @@ enum-known-refusal c = search needs
 
 returns-4 : tie.Need-returns-4
 unfolding bytes between
-returns-4 c = unrecognised-right (c .before .before .before .before .before .before .before .before .before .before .before .before .before .before .before .args .text .now) (c .before .before .before .before .before .before .before .before .before .before .before .before .before .before .before .args .i) (c .before .before .before .before .before .before .before .before .before .before .before .before .before .before .before .args .e) (omega arith) (omega arith) (sym (c .before .before .before .before .before .before .before .before .before .before .is-word .ensures) ∙ c .before .before .before .before .before .before .before .before .before .if2 .left) (sym (c .before .before .before .before .before .before .is-word2 .ensures) ∙ c .before .before .before .before .before .if3 .left) (c .before .before .before .before .action-at .ensures) (c .before .before .a .given .1) (c .applying .ensures)
+returns-4 c = unrecognised-right (c .before .before .before .before .before .before .before .before .before .before .before .before .before .before .before .args .text .now) (c .before .before .before .before .before .before .before .before .before .before .before .before .before .before .before .args .i) (c .before .before .before .before .before .before .before .before .before .before .before .before .before .before .before .args .e) (omega arith) (omega arith) (sym (c .before .before .before .before .before .before .before .before .before .before .is-word .ensures) ∙ c .before .before .before .before .before .before .before .before .before .if2 .left) (sym (c .before .before .before .before .before .before .is-word2 .ensures) ∙ c .before .before .before .before .before .if3 .left) (c .before .before .before .before .parse-action .ensures) (c .before .before .a .given .1) (c .applying .ensures)
 
 returns-5 : tie.Need-returns-5
 unfolding bytes between
-returns-5 c = unrecognised-wrong (c .before .before .before .before .before .before .before .before .before .before .before .before .before .before .args .text .now) (c .before .before .before .before .before .before .before .before .before .before .before .before .before .before .args .i) (c .before .before .before .before .before .before .before .before .before .before .before .before .before .before .args .e) (omega arith) (omega arith) (sym (c .before .before .before .before .before .before .before .before .before .is-word .ensures) ∙ c .before .before .before .before .before .before .before .before .if2 .left) (sym (c .before .before .before .before .before .is-word2 .ensures) ∙ c .before .before .before .before .if3 .left) (c .before .before .before .action-at .ensures) (c .before .refusal .given .1)
+returns-5 c = unrecognised-wrong (c .before .before .before .before .before .before .before .before .before .before .before .before .before .before .args .text .now) (c .before .before .before .before .before .before .before .before .before .before .before .before .before .before .args .i) (c .before .before .before .before .before .before .before .before .before .before .before .before .before .before .args .e) (omega arith) (omega arith) (sym (c .before .before .before .before .before .before .before .before .before .is-word .ensures) ∙ c .before .before .before .before .before .before .before .before .if2 .left) (sym (c .before .before .before .before .before .is-word2 .ensures) ∙ c .before .before .before .before .if3 .left) (c .before .before .before .parse-action .ensures) (c .before .refusal .given .1)
 
 pub say-unrecognised-spec : {M : Type 1} → statement M
 say-unrecognised-spec =
@@ -86,7 +86,7 @@ say-unrecognised-spec =
     slice-aggregate-is-word-2
     is-word-requires-2
     returns-3
-    action-at-requires
+    parse-action-requires
     enum-known-a
     applying-requires
     enum-known-refusal

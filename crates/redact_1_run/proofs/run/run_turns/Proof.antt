@@ -36,8 +36,8 @@ turn-at-requires c κs = search needs
 aim-of-requires : tie.Need-aim-of-requires Inv-loop μ-loop
 aim-of-requires c κs = turn-held (c .before .before .before .before .before .before .before .before .before .pre .0) _ (c .before .before .rule-row .ensures) _ _ _ (c .turn-at .ensures)
 
-next-requires : tie.Need-next-requires Inv-loop μ-loop
-next-requires c κs = (job-held (c .before .before .before .before .before .before .before .before .before .before .before .before .before .before .before .before .pre .2) _ _ (turn-held (c .before .before .before .before .before .before .before .before .before .before .before .before .before .before .before .before .pre .0) _ (c .before .before .before .before .before .before .before .before .before .rule-row .ensures) _ _ _ (c .before .before .before .before .before .before .before .turn-at .ensures)) (c .before .before .before .before .before .before .aim-of .ensures), c .before .before .before .before .before .before .before .before .before .before .before .before .before .before .before .before .pre .2, turns-poised _ _ _ _ (c .before .before .before .before .before .before .before .before .before .before .before .before .before .before .before .before .pre .0) _ _ _ _ _ (c .before .before .before .before .before .before .before .before .before .before .before .loop .inv .0) (c .before .before .before .before .before .before .before .before .before .before .before .before .before .before .before .before .pre .2) (c .before .before .before .before .before .before .before .before .before .before .before .before .before .before .before .before .pre .3))
+next-turn-requires : tie.Need-next-turn-requires Inv-loop μ-loop
+next-turn-requires c κs = (job-held (c .before .before .before .before .before .before .before .before .before .before .before .before .before .before .before .before .pre .2) _ _ (turn-held (c .before .before .before .before .before .before .before .before .before .before .before .before .before .before .before .before .pre .0) _ (c .before .before .before .before .before .before .before .before .before .rule-row .ensures) _ _ _ (c .before .before .before .before .before .before .before .turn-at .ensures)) (c .before .before .before .before .before .before .aim-of .ensures), c .before .before .before .before .before .before .before .before .before .before .before .before .before .before .before .before .pre .2, turns-poised _ _ _ _ (c .before .before .before .before .before .before .before .before .before .before .before .before .before .before .before .before .pre .0) _ _ _ _ _ (c .before .before .before .before .before .before .before .before .before .before .before .loop .inv .0) (c .before .before .before .before .before .before .before .before .before .before .before .before .before .before .before .before .pre .2) (c .before .before .before .before .before .before .before .before .before .before .before .before .before .before .before .before .pre .3))
 
 add-k : tie.Need-add-k Inv-loop μ-loop
 add-k c = search (needs, c .before .before .before .before .before .before .before .before .before .before .before .before .before .before .before .loop-test, c .before .before .before .before .before .before .before .before .before .before .before .before .before .before .before .before .before .before .before .before .before .pre .0 .few)
@@ -46,7 +46,7 @@ loop-less : tie.Need-loop-less Inv-loop μ-loop
 loop-less c = search needs
 
 loop-again : tie.Need-loop-again Inv-loop μ-loop
-loop-again c = (turns-more _ _ _ _ (c .before .before .before .before .before .before .before .before .before .before .before .before .before .before .before .before .before .before .before .before .before .pre .0) _ _ _ _ _ (c .before .before .before .before .before .before .before .before .before .before .before .before .before .before .before .before .loop .inv .0) (c .before .before .before .before .before .before .before .before .before .before .before .before .before .before .before .before .before .before .before .before .before .pre .1) (c .before .before .before .before .before .before .before .before .before .before .before .before .before .before .before .before .before .before .before .before .before .pre .2) (c .before .before .before .before .before .before .before .before .before .before .before .before .before .before .before .loop-test .taken) _ (c .before .before .before .before .before .before .before .before .before .before .before .before .before .before .rule-row .ensures) _ _ _ (c .before .before .before .before .before .before .before .before .before .before .before .before .turn-at .ensures) _ _ (c .before .before .before .before .next .ensures), search (needs, c .before .before .before .before .before .before .before .before .before .before .before .before .before .before .before .before .loop .inv .1), search (needs, c .before .before .before .before .before .before .before .before .before .before .before .before .before .before .before .before .loop .inv .2))
+loop-again c = (turns-more _ _ _ _ (c .before .before .before .before .before .before .before .before .before .before .before .before .before .before .before .before .before .before .before .before .before .pre .0) _ _ _ _ _ (c .before .before .before .before .before .before .before .before .before .before .before .before .before .before .before .before .loop .inv .0) (c .before .before .before .before .before .before .before .before .before .before .before .before .before .before .before .before .before .before .before .before .before .pre .1) (c .before .before .before .before .before .before .before .before .before .before .before .before .before .before .before .before .before .before .before .before .before .pre .2) (c .before .before .before .before .before .before .before .before .before .before .before .before .before .before .before .loop-test .taken) _ (c .before .before .before .before .before .before .before .before .before .before .before .before .before .before .rule-row .ensures) _ _ _ (c .before .before .before .before .before .before .before .before .before .before .before .before .turn-at .ensures) _ _ (c .before .before .before .before .next-turn .ensures), search (needs, c .before .before .before .before .before .before .before .before .before .before .before .before .before .before .before .before .loop .inv .1), search (needs, c .before .before .before .before .before .before .before .before .before .before .before .before .before .before .before .before .loop .inv .2))
 
 same-length : tie.Need-same-length Inv-loop μ-loop
 same-length c = search needs
@@ -70,7 +70,7 @@ run-turns-spec =
     element-copy-out-rule
     turn-at-requires
     aim-of-requires
-    next-requires
+    next-turn-requires
     add-k
     loop-less
     loop-again

@@ -19,8 +19,8 @@ aim-at-requires-2 c κs = subst (TurnHeld _) (c .before .turn2 .given .1) (c .be
 enum-known-turn-3 : tie.Need-enum-known-turn-3
 enum-known-turn-3 c = search needs
 
-is-null-requires : tie.Need-is-null-requires
-is-null-requires c κs = search needs
+is-null-action-requires : tie.Need-is-null-action-requires
+is-null-action-requires c κs = search needs
 
 aim-unnamed-requires : tie.Need-aim-unnamed-requires
 aim-unnamed-requires c κs = search needs
@@ -47,7 +47,7 @@ returns-2 c = rw (c .before .before .turn2 .given .1) (c .aim-at2 .ensures)
 
 returns-3 : tie.Need-returns-3
 unfolding aimOf
-returns-3 c = rw (c .before .before .before .turn3 .given .1, ← c .before .is-null .ensures _) (c .aim-unnamed .ensures)
+returns-3 c = rw (c .before .before .before .turn3 .given .1, ← c .before .is-null-action .ensures _) (c .aim-unnamed .ensures)
 
 returns-4 : tie.Need-returns-4
 unfolding aimOf
@@ -66,7 +66,7 @@ aim-of-spec =
     enum-known-turn-2
     aim-at-requires-2
     enum-known-turn-3
-    is-null-requires
+    is-null-action-requires
     aim-unnamed-requires
     enum-told
     aim-unnamed-requires-2

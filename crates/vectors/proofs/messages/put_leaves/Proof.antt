@@ -12,8 +12,8 @@ abbrev μ-loop : tie.MeasureT-loop
 loop-holds : tie.Need-loop-holds Inv-loop μ-loop
 loop-holds c = search needs
 
-put-leaf-requires : tie.Need-put-leaf-requires Inv-loop μ-loop
-put-leaf-requires c κs = search needs
+show-leaf-requires : tie.Need-show-leaf-requires Inv-loop μ-loop
+show-leaf-requires c κs = search needs
 
 add-j : tie.Need-add-j Inv-loop μ-loop
 add-j c = search needs
@@ -30,4 +30,4 @@ returns c = search needs
 pub put-leaves-spec : {M : Type 1} → statement M
 put-leaves-spec =
     tie.close
-    (tie.spec Inv-loop μ-loop loop-holds put-leaf-requires add-j loop-less loop-again returns)
+    (tie.spec Inv-loop μ-loop loop-holds show-leaf-requires add-j loop-less loop-again returns)

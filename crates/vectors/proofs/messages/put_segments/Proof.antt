@@ -18,8 +18,8 @@ add-cell c = search needs
 cell-requires : tie.Need-cell-requires Inv-loop μ-loop
 cell-requires c κs = search needs
 
-put-segment-requires : tie.Need-put-segment-requires Inv-loop μ-loop
-put-segment-requires c κs = search needs
+show-segment-requires : tie.Need-show-segment-requires Inv-loop μ-loop
+show-segment-requires c κs = search needs
 
 add-i : tie.Need-add-i Inv-loop μ-loop
 add-i c = search needs
@@ -42,7 +42,7 @@ put-segments-spec =
     loop-holds
     add-cell
     cell-requires
-    put-segment-requires
+    show-segment-requires
     add-i
     loop-less
     loop-again

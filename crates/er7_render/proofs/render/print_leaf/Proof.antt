@@ -1,7 +1,7 @@
 use native.Mathlib.Omega.{arith}
 use borrow.Author.Needs.{needs}
-use Rattle.er7_render.proofs.render.put_leaf.Statement.{statement}
-use Rattle.er7_render.proofs.render.put_leaf.Tie as tie
+use Rattle.er7_render.proofs.render.print_leaf.Statement.{statement}
+use Rattle.er7_render.proofs.render.print_leaf.Tie as tie
 use Rattle.er7_table.specs.Table.{cell}
 use Rattle.er7_render.proofs.Laws.{leaf-gone, lead-room, text-room, leaf-wrote}
 
@@ -71,8 +71,8 @@ returns-2 : tie.Need-returns-2
 unfolding cell
 returns-2 c = leaf-wrote _ _ _ _ _ (c .before .before .before .before .before .before .before .before .before .before .before .before .if1 .left) (c .before .before .before .before .before .before .before .before .before .place-at .ensures) (c .before .before .before .before .before .before .before .put-lead .ensures) (c .before .before .copy-at .ensures)
 
-pub put-leaf-spec : {M : Type 1} → statement M
-put-leaf-spec =
+pub print-leaf-spec : {M : Type 1} → statement M
+print-leaf-spec =
     tie.close
     (tie.spec
     mul-row

@@ -1,6 +1,6 @@
 use borrow.Author.Needs.{needs}
-use Rattle.redact_1_run.proofs.run.next.Statement.{statement}
-use Rattle.redact_1_run.proofs.run.next.Tie as tie
+use Rattle.redact_1_run.proofs.run.next_turn.Statement.{statement}
+use Rattle.redact_1_run.proofs.run.next_turn.Tie as tie
 use Rattle.redact_1_run.proofs.Rooms.{poised-going, poised-room, room-ahead, room-ordered, room-next, turn-made, turn-refused, next-stopped}
 use mathlib.Core.Path.{ap}
 use Rattle.redact_5_act.specs.State.{afterStep}
@@ -50,8 +50,8 @@ returns-2 c = room-next _ _ _ _ _ (c .before .before .before .before .before .be
 returns-3 : tie.Need-returns-3
 returns-3 c = next-stopped (c .before .done2 .given .1)
 
-pub next-spec : {M : Type 1} → statement M
-next-spec =
+pub next-turn-spec : {M : Type 1} → statement M
+next-turn-spec =
     tie.close
     (tie.spec
     enum-known-done

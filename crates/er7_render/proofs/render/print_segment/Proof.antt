@@ -1,6 +1,6 @@
 use borrow.Author.Needs.{needs}
-use Rattle.er7_render.proofs.render.put_segment.Statement.{statement}
-use Rattle.er7_render.proofs.render.put_segment.Tie as tie
+use Rattle.er7_render.proofs.render.print_segment.Statement.{statement}
+use Rattle.er7_render.proofs.render.print_segment.Tie as tie
 use Rattle.er7_table.specs.Table.{cell, firstLeaf}
 use Rattle.er7_render.proofs.Laws.{next-first, segment-leaves, name-room, inside-room, ending-room, segment-wrote}
 
@@ -55,8 +55,8 @@ returns : tie.Need-returns
 unfolding firstLeaf cell
 returns c = segment-wrote _ _ _ _ _ _ _ (c .before .before .before .before .before .before .before .before .before .before .before .before .put-name .ensures) (next-first (c .before .before .before .before .before .before .before .before .before .before .before .before .before .before .before .before .before .before .before .before .args .segs .now) (c .before .before .before .before .before .before .before .before .before .before .before .before .before .before .before .before .before .before .before .before .args .k)) (c .before .before .before .before .before .before .before .before .put-leaves .ensures) (c .before .before .put-cr .ensures)
 
-pub put-segment-spec : {M : Type 1} → statement M
-put-segment-spec =
+pub print-segment-spec : {M : Type 1} → statement M
+print-segment-spec =
     tie.close
     (tie.spec
     mul-row

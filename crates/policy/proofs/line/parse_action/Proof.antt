@@ -1,8 +1,8 @@
 use borrow.Author.Needs.{needs}
-use Rattle.policy.proofs.line.action_at.Statement.{statement}
-use Rattle.policy.proofs.line.action_at.Tie as tie
-use Rattle.policy.proofs.line.action_at.Reads as reads
-use Rattle.policy.proofs.line.action_at.Lts as lts
+use Rattle.policy.proofs.line.parse_action.Statement.{statement}
+use Rattle.policy.proofs.line.parse_action.Tie as tie
+use Rattle.policy.proofs.line.parse_action.Reads as reads
+use Rattle.policy.proofs.line.parse_action.Lts as lts
 use Rattle.text.specs.Text.{between}
 use Rattle.policy.proofs.Lines.{action-between}
 use native.Mathlib.Omega.{arith}
@@ -28,6 +28,6 @@ returns : tie.Need-returns
 unfolding between
 returns c = action-between _ _ _ (omega arith) (omega arith) _ (c .parse .ensures)
 
-pub action-at-spec : {M : Type 1} → statement M
-action-at-spec =
+pub parse-action-spec : {M : Type 1} → statement M
+parse-action-spec =
     tie.close (tie.spec sub-parse part-parse-start part-parse-end parse-requires returns)

@@ -1,5 +1,5 @@
-use Rattle.er7_render.proofs.render.delimiter_of.Statement.{statement}
-use Rattle.er7_render.proofs.render.delimiter_of.Tie as tie
+use Rattle.er7_render.proofs.render.delimiter_before.Statement.{statement}
+use Rattle.er7_render.proofs.render.delimiter_before.Tie as tie
 use borrow.Author.Tests.{eq-eqb, ne-eqb}
 use Rattle.message_model.specs.Message.{delimiter}
 
@@ -19,5 +19,5 @@ returns-4 : tie.Need-returns-4
 unfolding delimiter
 returns-4 c = simp (eq-eqb _ _ (c .before .before .before .before .if1 .left), eq-eqb _ _ (c .before .before .if2 .left), eq-eqb _ _ (c .if3 .left))
 
-pub delimiter-of-spec : {M : Type 1} → statement M
-delimiter-of-spec = tie.close (tie.spec returns returns-2 returns-3 returns-4)
+pub delimiter-before-spec : {M : Type 1} → statement M
+delimiter-before-spec = tie.close (tie.spec returns returns-2 returns-3 returns-4)
