@@ -98,7 +98,7 @@ static size_t size(const char *t) { return t == NULL ? 0 : strlen(t); }
 #define SLICE(t) (const uint8_t *)(t), size(t)
 
 /* An entry without a report: its length and its rows count as 0. */
-static Call lend(size_t output, size_t scratch) {
+static Call without_report(size_t output, size_t scratch) {
     Call c = ready(output, 0, scratch);
     c.report_len = 0;
     c.rows = 0;
@@ -106,7 +106,7 @@ static Call lend(size_t output, size_t scratch) {
 }
 
 static Call print_on(size_t output, size_t scratch, const char *policy) {
-    Call c = lend(output, scratch);
+    Call c = without_report(output, scratch);
     c.number = er7_print(SLICE(policy), c.output.bytes, output, c.scratch.bytes, scratch, &c.text_len, &c.line);
     return c;
 }
@@ -114,7 +114,7 @@ static Call print_on(size_t output, size_t scratch, const char *policy) {
 static Call print(const char *policy) { return print_on(WIDE, WIDE, policy); }
 
 static Call append_on(size_t output, size_t scratch, const char *first, const char *second) {
-    Call c = lend(output, scratch);
+    Call c = without_report(output, scratch);
     c.number = er7_append(SLICE(first), SLICE(second), c.output.bytes, output, c.scratch.bytes, scratch, &c.text_len, &c.line);
     return c;
 }
@@ -122,7 +122,7 @@ static Call append_on(size_t output, size_t scratch, const char *first, const ch
 static Call append(const char *first, const char *second) { return append_on(WIDE, WIDE, first, second); }
 
 static Call builtin_on(size_t output, size_t scratch, uint64_t number) {
-    Call c = lend(output, scratch);
+    Call c = without_report(output, scratch);
     c.number = er7_builtin(number, c.output.bytes, output, c.scratch.bytes, scratch, &c.text_len, &c.line);
     return c;
 }
@@ -130,7 +130,7 @@ static Call builtin_on(size_t output, size_t scratch, uint64_t number) {
 static Call builtin(uint64_t number) { return builtin_on(WIDE, WIDE, number); }
 
 static Call payload_on(size_t output, size_t scratch, const char *payload, const char *policy, uint64_t key) {
-    Call c = lend(output, scratch);
+    Call c = without_report(output, scratch);
     c.number = er7_payload(SLICE(payload), SLICE(policy), key, c.output.bytes, output, c.scratch.bytes, scratch, &c.text_len, &c.line);
     return c;
 }
