@@ -26,8 +26,8 @@ status=0
 # shellcheck disable=SC2086
 rt must-fail $names || status=$?
 
-# The first error, with the lines that belong to it.
-first_error() { awk '/: error: / { if (seen) exit; seen = 1 } seen { print } seen && ++n == 4 { exit }' "$1" | tr '\n' ' '; }
+# The first error that does not only follow from another, with the lines that belong to it.
+first_error() { awk '/: error: / { if (seen) exit; seen = !/was not admitted/ } seen { print } seen && ++n == 4 { exit }' "$1" | tr '\n' ' '; }
 form=0
 for log in target/must-fail/*/*/.log; do
     edit=${log#target/must-fail/}
@@ -37,7 +37,7 @@ for log in target/must-fail/*/*/.log; do
     first=${first#"$room/target/must-fail/$edit/"}
     echo "$edit: ${first:0:200}"
     case $first in
-    *'has no `Need-'* | *'has no field'* | *'is not in scope'*)
+    *'has no `Need-'* | *'has no field'* | *'is not in scope'* | *': error: `'*'-spec`: '*)
         echo "$edit: REFUSED FOR ITS FORM"
         form=$((form + 1))
         ;;

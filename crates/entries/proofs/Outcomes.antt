@@ -11,6 +11,7 @@ use Rattle.text.specs.Text.{Text, zeroed}
 use Rattle.refusal.specs.declared.Refusal.{Refusal}
 use Rattle.refusal.specs.declared.Refusal.the-variants.{ShortBuffer}
 use Rattle.refusal.specs.Refusal.{number}
+use Rattle.refusal.specs.Limits.{TEXT_MAX}
 use Rattle.policy_model.specs.Policy as Q
 use Rattle.policy_model.specs.Policy.{Policy, PolicyRead, read}
 use Rattle.run_model.specs.Redact.{printRows}
@@ -73,13 +74,13 @@ or-right true false e = refl
 or-right false b e = e
 
 module _ (a b : ℕ) (e : isShort (lent a b) ≡ false) where
-  pub wide-output : 49152 ≤ a
+  pub wide-output : TEXT_MAX ≤ a
   unfolding isShort lent
-  wide-output = ltb-false a 49152 (or-left (ltb a 49152) (ltb b 49152) e)
+  wide-output = ltb-false a TEXT_MAX (or-left (ltb a TEXT_MAX) (ltb b TEXT_MAX) e)
 
-  pub wide-scratch : 49152 ≤ b
+  pub wide-scratch : TEXT_MAX ≤ b
   unfolding isShort lent
-  wide-scratch = ltb-false b 49152 (or-right (ltb a 49152) (ltb b 49152) e)
+  wide-scratch = ltb-false b TEXT_MAX (or-right (ltb a TEXT_MAX) (ltb b TEXT_MAX) e)
 
 -- an entry answers 1, or what it has to answer
 module _ {X : Type 0} (b : Lent) (x : Answer X) where

@@ -1,25 +1,26 @@
 -- Laws of what a payload gets. Assumes nothing.
 use mathlib.Core.Path.{_≡_, ap}
 use mathlib.Core.Bool.{true, false}
-use mathlib.Core.List.{[]}
 use mathlib.Core.Option.{Option}
 use Prim.Native.Nat.{ℕ, _≤_, _<_}
 use native.Mathlib.Nat.{zero-add}
 use borrow.Author.Tests.{lt-ltb, le-ltb}
 use lib.ListN.{length, take}
 use lib.Seq.{take-append-seam}
-use Rattle.text.specs.Text.{Text, all, put, Wrote}
+use Rattle.text.specs.Text.{Text, put, Wrote}
 use Rattle.er7_redact.specs.Action as A
 use Rattle.er7_redact.specs.Action.{asAction, ActionHeld, answer, written}
 use Rattle.er7_redact.specs.declared.action.Action.{Action as HeldAction}
 use Rattle.er7_redact.specs.declared.action.Applied.the-variants.{Written, Nothing}
 use Rattle.er7_redact.proofs.Actions.{answered-text, answered-nothing}
 use Rattle.refusal.specs.declared.Refusal.the-variants.{TooLong, ForeignByte, Withheld}
-use Rattle.refusal.specs.Refusal.{tooLong}
+use Rattle.refusal.specs.Refusal.{tooLong, noForeign}
+use Rattle.refusal.specs.declared.input.Input.the-variants as Inputs
+use Rattle.refusal.specs.Limits.{INPUT_MAX}
 use Rattle.policy.specs.declared.line.Unrecognised.{Unrecognised as HeldUnrecognised}
 use Rattle.policy.specs.declared.line.Unrecognised.the-variants as Held
 use Rattle.policy.specs.Line.{asUnrecognised, UnrecognisedHeld}
-use Rattle.run_model.specs.Entries.{Answer, done, refused, withoutFault, isPayloadByte, payloadFault, writtenOr, unrecognised}
+use Rattle.run_model.specs.Entries.{Answer, done, refused, withoutFault, payloadFault, writtenOr, unrecognised}
 use Rattle.entries.specs.Inner.{NeverLong, UnrecognisedShort}
 
 -- what was written to the front of a buffer stands there
@@ -66,14 +67,14 @@ apply-short key policy u e h = rw e at h
 -- ---- the payload's faults
 
 module _ (t : Text) (x : Answer Text) where
-  pub fault-long : 32768 < length t → withoutFault (payloadFault t) x ≡ refused TooLong 0
+  pub fault-long : INPUT_MAX < length t → withoutFault (payloadFault t) x ≡ refused TooLong 0
   unfolding payloadFault tooLong withoutFault
-  fault-long h = rw (lt-ltb 32768 (length t) h)
+  fault-long h = rw (lt-ltb INPUT_MAX (length t) h)
 
-  pub fault-foreign : length t ≤ 32768 → all isPayloadByte t ≡ false → withoutFault (payloadFault t) x ≡ refused ForeignByte 0
+  pub fault-foreign : length t ≤ INPUT_MAX → noForeign Inputs.Payload t ≡ false → withoutFault (payloadFault t) x ≡ refused ForeignByte 0
   unfolding payloadFault tooLong withoutFault
-  fault-foreign h e = rw (le-ltb 32768 (length t) h, e)
+  fault-foreign h e = rw (le-ltb INPUT_MAX (length t) h, e)
 
-  pub fault-none : length t ≤ 32768 → all isPayloadByte t ≡ true → withoutFault (payloadFault t) x ≡ x
+  pub fault-none : length t ≤ INPUT_MAX → noForeign Inputs.Payload t ≡ true → withoutFault (payloadFault t) x ≡ x
   unfolding payloadFault tooLong withoutFault
-  fault-none h e = rw (le-ltb 32768 (length t) h, e)
+  fault-none h e = rw (le-ltb INPUT_MAX (length t) h, e)

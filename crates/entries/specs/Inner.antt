@@ -9,6 +9,7 @@ use Rattle.policy_print.specs.declared.print.Printed.{Printed}
 use Rattle.policy_print.specs.declared.print.Printed.the-variants.{Written, Refused}
 use Rattle.entries.specs.declared.returned.Returned.{Returned}
 use Rattle.entries.specs.declared.returned.ReturnedReport.{ReturnedReport}
+use Rattle.refusal.specs.Limits.{TEXT_MAX}
 
 -- what a call returned, with a report of k bytes and m rows
 unfoldable pub withReport : Returned → ℕ → ℕ → ReturnedReport
@@ -19,9 +20,10 @@ abbrev pub WrittenIn : ℕ → Printed → Type 0
 WrittenIn m (Written n) = n ≤ m
 WrittenIn m (Refused e n) = Unit {0}
 
--- what an action writes in the place of a text is no longer than a message may be, if the text is none longer
+-- what an action writes in the place of a text is no longer than a message may be, if the text is none longer; no payload is refused for
+-- it, since it has at most 32,768 bytes and an action's argument at most 80
 abbrev pub NeverLong : ℕ → Action → Type 0
-NeverLong key a = (v : Text) → length v ≤ 49152 → room (A.apply key a v) ≤ 49152
+NeverLong key a = (v : Text) → length v ≤ TEXT_MAX → room (A.apply key a v) ≤ TEXT_MAX
 
 abbrev pub UnrecognisedShort : ℕ → Unrecognised → Type 0
 UnrecognisedShort key pass = Unit {0}

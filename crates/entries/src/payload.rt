@@ -10,43 +10,27 @@ use policy::line::Unrecognised;
 use policy::policy::Verdict;
 use policy::policy::parse;
 use refusal::Refusal;
+use refusal::input::Input;
+use refusal::input::no_foreign;
+use refusal::limits::INPUT_MAX;
 use text::bytes::copy_at;
 ghost use mathlib.Core.Path.{_≡_};
 ghost use Prim.Native.Nat.{_≤_};
 ghost use lib.ListN.{length};
-ghost use Rattle.text.specs.Text.{all, Wrote};
+ghost use Rattle.text.specs.Text.{Wrote};
 ghost use Rattle.er7_redact.specs.Action.{asAction, ActionHeld};
 ghost use Rattle.er7_redact.specs.Action as Actions;
 ghost use Rattle.policy.specs.Line.{asUnrecognised, UnrecognisedHeld};
-ghost use Rattle.run_model.specs.Entries.{outcome, withoutFault, isPayloadByte, payloadFault, writtenOr, payloadOutcome};
+ghost use Rattle.run_model.specs.Entries.{outcome, withoutFault, payloadFault, writtenOr, payloadOutcome};
 ghost use Rattle.run_model.specs.Entries as Spec;
 ghost use Rattle.entries.specs.Returned.{lent, asOutcome};
 ghost use Rattle.entries.specs.Inner.{NeverLong, UnrecognisedShort};
-
-// Whether b may stand in a payload.
-fn is_payload_byte(b: u8) -> bool
-    ensures { λ r. ⌜ r ≡ isPayloadByte b ⌝ }
-{
-    (b == 9) | ((32 <= b) & (b <= 126)) | (b == b'\r') | (b == b'\n')
-}
-
-// Whether every byte may stand in a payload.
-fn are_payload_bytes(payload: &[u8]) -> bool
-    ensures { λ r. ⌜ r ≡ all isPayloadByte (now (payload .entry)) ⌝ }
-{
-    let mut fine = true;
-    let mut i = 0;
-    while i < payload.len() {
-        fine = fine & is_payload_byte(payload[i]);
-        i += 1;
-    }
-    fine
-}
+ghost use Rattle.refusal.specs.Limits.{TEXT_MAX};
 
 // Writes what the action a, whose replacement stands in policy, writes in the payload's place, or the payload itself where it writes
 // nothing, to the front of output, and returns its length.
 fn put_applied(a: Action, policy: &[u8], key: u64, payload: &[u8], output: &mut [u8]) -> usize
-    requires { ⌜ ActionHeld (now policy) a × NeverLong key (asAction (now policy) a) × (length (now payload) ≤ 49152) × (49152 ≤ length (now output)) ⌝ }
+    requires { ⌜ ActionHeld (now policy) a × NeverLong key (asAction (now policy) a) × (length (now payload) ≤ TEXT_MAX) × (TEXT_MAX ≤ length (now output)) ⌝ }
     ensures { λ r. ⌜ Wrote (now (output .entry)) 0 (writtenOr (now (payload .entry)) (Actions.apply key (asAction (now (policy .entry)) a) (now (payload .entry)))) (now (output .exit)) r ⌝ }
 {
     match action::applied_len(a, payload) {
@@ -64,7 +48,7 @@ fn answer_payload(
     output: &mut [u8],
     scratch: &mut [u8],
 ) -> Returned
-    requires { ⌜ UnrecognisedHeld (now policy) u × UnrecognisedShort key (asUnrecognised (now policy) u) × (length (now payload) ≤ 49152) × (49152 ≤ length (now output)) ⌝ }
+    requires { ⌜ UnrecognisedHeld (now policy) u × UnrecognisedShort key (asUnrecognised (now policy) u) × (length (now payload) ≤ TEXT_MAX) × (TEXT_MAX ≤ length (now output)) ⌝ }
     ensures { λ r. ⌜ asOutcome r (now (output .exit)) (now (scratch .exit)) ≡ outcome (lent (length (now (output .entry))) (length (now (scratch .entry)))) (Spec.unrecognised key (asUnrecognised (now (policy .entry)) u) (now (payload .entry))) ⌝ }
 {
     match u {
@@ -89,13 +73,13 @@ fn judge(
     output: &mut [u8],
     scratch: &mut [u8],
 ) -> Returned
-    requires { ⌜ UnrecognisedHeld (now policy) u × UnrecognisedShort key (asUnrecognised (now policy) u) × (49152 ≤ length (now output)) ⌝ }
+    requires { ⌜ UnrecognisedHeld (now policy) u × UnrecognisedShort key (asUnrecognised (now policy) u) × (TEXT_MAX ≤ length (now output)) ⌝ }
     ensures { λ r. ⌜ asOutcome r (now (output .exit)) (now (scratch .exit)) ≡ outcome (lent (length (now (output .entry))) (length (now (scratch .entry)))) (withoutFault (payloadFault (now (payload .entry))) (Spec.unrecognised key (asUnrecognised (now (policy .entry)) u) (now (payload .entry)))) ⌝ }
 {
-    if 32768 < payload.len() {
+    if INPUT_MAX < payload.len() {
         return refuse(Refusal::TooLong, 0, output, scratch);
     }
-    if !are_payload_bytes(payload) {
+    if !no_foreign(Input::Payload, payload) {
         return refuse(Refusal::ForeignByte, 0, output, scratch);
     }
     answer_payload(u, payload, policy, key, output, scratch)

@@ -21,7 +21,7 @@ ghost use Rattle.entries.specs.Inner.{WrittenIn};
 // Hands back the text that was printed to output, or the refusal.
 fn answer(printed: Printed, output: &mut [u8], scratch: &mut [u8]) -> Returned
     requires { ⌜ WrittenIn (length (now output)) printed ⌝ }
-    ensures { λ r. ⌜ ((o : PolicyRead) (d : Text) → PrintedIs o d (now (output .entry)) printed → asOutcome r (now (output .exit)) (now (scratch .exit)) ≡ outcome (lent (length (now (output .entry))) (length (now (scratch .entry)))) (withPolicy o Spec.printed)) ⌝ }
+    ensures { λ r. ⌜ ((o : PolicyRead) (d : Text) → PrintedIs o d (now (output .entry)) printed → asOutcome r (now (output .exit)) (now (scratch .exit)) ≡ outcome (lent (length (now (output .entry))) (length (now (scratch .entry)))) (withPolicy o Spec.printedPolicy)) ⌝ }
 {
     match printed {
         Printed::Written(n) => finish(n, output, scratch),

@@ -1,5 +1,6 @@
 // What every entry hands back: its buffers zeroed for a refusal, or a text and a report with zeros behind them.
 use refusal::Refusal;
+use refusal::limits::TEXT_MAX;
 use refusal::number;
 use text::bytes::zero_from;
 ghost use mathlib.Core.Path.{_≡_};
@@ -31,7 +32,7 @@ pub struct ReturnedReport {
 pub fn is_short(output: usize, scratch: usize) -> bool
     ensures { λ r. ⌜ r ≡ isShort (lent output scratch) ⌝ }
 {
-    (output < 49152) | (scratch < 49152)
+    (output < TEXT_MAX) | (scratch < TEXT_MAX)
 }
 
 // Zeros output from index n on, and the scratch.

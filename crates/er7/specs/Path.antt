@@ -11,7 +11,7 @@ use Rattle.er7.specs.declared.path.Path.{Path as HeldPath}
 use Rattle.er7.specs.declared.path.ParsedPath.{ParsedPath}
 use Rattle.er7.specs.declared.path.ParsedPath.the-variants.{Parsed, BadPath}
 
--- a path, with its segment's name as text; 0 is an index that is absent ("0 is never an index")
+-- the term "path": its segment's name as text, and five indices; 0 is an index that is absent ("0 is never an index")
 pub record Path : Type 0 where
   pub segment : Text
   pub occurrence : ℕ

@@ -8,11 +8,10 @@ pub struct Place {
     pub subcomponent: usize,
 }
 
-// A segment's name, its number among the segments of that name, and whether it is the header.
+// A segment's name, and its number among the segments of that name.
 pub struct Label {
     pub a: u8,
     pub b: u8,
     pub c: u8,
     pub occurrence: usize,
-    pub header: bool,
 }

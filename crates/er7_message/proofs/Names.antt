@@ -7,41 +7,16 @@ use native.Mathlib.Numerals.{add-one}
 use native.Mathlib.Omega.{arith}
 use borrow.Author.Tests.{lt-leb, le-leb, eq-eqb, ne-eqb}
 use lib.Dec.{eqb}
-use lib.ListN.{length, take, drop, getD, drop-of-length-le}
-use Rattle.text.specs.Text.{Text, bytes, same, all}
+use lib.ListN.{length, take, getD}
+use Rattle.text.specs.Text.{Text, same, all}
 use Rattle.text.proofs.Words.{same-eq}
 use Rattle.text.proofs.Laws.{by-cond}
-use Rattle.text.proofs.Runs.{drop-step}
 use Rattle.er7.specs.declared.separators.Separators.{Separators}
-use Rattle.message_model.specs.Message.{endsInCR, isNameByte, isName, isNamed, count}
+use Rattle.message_model.specs.Message.{isHeaderName, endsInCR, isNameByte, isName, isNamed, count}
 use Rattle.er7_table.specs.Table.{cell, listOf, nameAt}
 use Rattle.er7_table.proofs.Laws.{list-append, list-length}
 use Rattle.er7_message.specs.Inner.{names, Numbered}
 use Rattle.er7_message.proofs.Headers.{and-end}
-
--- ---- a test of every byte that has come to index i
-
-and-assoc : (a b c : Bool) → a && (b && c) ≡ a && b && c
-and-assoc true b c = refl
-and-assoc false b c = refl
-
-pub record Testing (p : ℕ → Bool) (t : Text) (fine : Bool) (i : ℕ) : Type 0 where
-  pub high : i ≤ length t
-  pub is : all p t ≡ fine && all p (drop i t)
-
-pub testing-start : (p : ℕ → Bool) (t : Text) → Testing p t true 0
-testing-start p t = record { high = omega arith; is = refl }
-
-pub testing-more : {p : ℕ → Bool} {t : Text} {fine : Bool} {i : ℕ} → Testing p t fine i → i < length t → {b : Bool} → b ≡ p (getD t i 0) → Testing p t (fine && b) (i + 1)
-unfolding all
-testing-more {p} {t} {fine} {i} g h {b} e = record {
-  high = omega arith;
-  is = g .is ∙ rw (drop-step t i h, e) (and-assoc fine (p (getD t i 0)) (all p (drop (i + 1) t)));
-}
-
-pub testing-all : {p : ℕ → Bool} {t : Text} {fine : Bool} {i : ℕ} → Testing p t fine i → length t ≤ i → fine ≡ all p t
-unfolding all
-testing-all {p} {t} {fine} {i} g h = sym (g .is ∙ rw (drop-of-length-le t {i = i} h) (and-end fine))
 
 -- ---- the last CR
 
@@ -63,14 +38,13 @@ all-three : (p : ℕ → Bool) (a b c : ℕ) → all p (a ∷ b ∷ c ∷ []) �
 unfolding all
 all-three p a b c = rw (and-end (p c))
 
-pub name-is : (n : Text) → length n ≡ 3 → {p q r x y z : Bool} → p ≡ isNameByte (getD n 0 0) → q ≡ isNameByte (getD n 1 0) → r ≡ isNameByte (getD n 2 0)
-    → x ≡ same n (bytes "MSH") → y ≡ same n (bytes "FHS") → z ≡ same n (bytes "BHS")
-    → p && (q && r) && not x && not y && not z ≡ isName n
+pub name-is : (n : Text) → length n ≡ 3 → {p q r x : Bool} → p ≡ isNameByte (getD n 0 0) → q ≡ isNameByte (getD n 1 0) → r ≡ isNameByte (getD n 2 0)
+    → x ≡ isHeaderName (getD n 0 0 ∷ getD n 1 0 ∷ getD n 2 0 ∷ []) → p && (q && r) && not x ≡ isName n
 unfolding isName
-name-is n h e1 e2 e3 e4 e5 e6 =
-    rw (e1, e2, e3, e4, e5, e6)
-    (ap (λ (b : Bool). b && not (same n (bytes "MSH")) && not (same n (bytes "FHS")) && not (same n (bytes "BHS")))
-    (sym (ap (all isNameByte) (three-bytes n h) ∙ all-three isNameByte (getD n 0 0) (getD n 1 0) (getD n 2 0))))
+name-is n h e1 e2 e3 e4 =
+    rw (e1, e2, e3, e4)
+    (sym (ap (λ (m : Text). all isNameByte m && not (isHeaderName m)) (three-bytes n h)
+    ∙ rw (all-three isNameByte (getD n 0 0) (getD n 1 0) (getD n 2 0))))
 
 module _ (s : Separators) (l : Text) where
   pub named-short : length l < 3 → false ≡ isNamed s l

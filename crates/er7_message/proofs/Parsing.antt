@@ -8,20 +8,22 @@ use native.Mathlib.Omega.{arith}
 use borrow.Author.Tests.{lt-ltb, le-ltb}
 use lib.ListN.{length, take}
 use lib.Seq.{length-take-le}
-use Rattle.text.specs.Text.{Text, all}
+use Rattle.text.specs.Text.{Text}
 use Rattle.text.proofs.Laws.{clash}
 use Rattle.refusal.specs.declared.Refusal.{Refusal}
 use Rattle.refusal.specs.declared.Refusal.the-variants.{TooLong, ForeignByte, BadHeader}
-use Rattle.refusal.specs.Refusal.{tooLong}
+use Rattle.refusal.specs.Refusal.{tooLong, noForeign}
+use Rattle.refusal.specs.declared.input.Input.the-variants as Inputs
+use Rattle.refusal.specs.Limits.{INPUT_MAX}
 use Rattle.er7.specs.declared.separators.Separators.{Separators}
-use Rattle.message_model.specs.Message.{Message, separatorsOf, isHeader, endsInCR, withoutLastCR, segmentLines, firstOf, isMessageByte, messageFault, messageOf}
+use Rattle.message_model.specs.Message.{Message, separatorsOf, isHeader, endsInCR, withoutLastCR, segmentLines, firstOf, messageFault, messageOf}
 use Rattle.message_model.proofs.Faultless.{header-line}
 use Rattle.er7_table.specs.Table.{placeAt}
 use Rattle.er7_table.proofs.Laws.{segments-in-store}
 use Rattle.er7_table.proofs.Reading.{within-more}
 use Rattle.er7_message.specs.declared.message.ParsedMessage.{ParsedMessage}
 use Rattle.er7_message.specs.declared.message.ParsedMessage.the-variants.{Read, Refused}
-use Rattle.er7_message.specs.Parsed.{faultOf, Stands, ParsedAs}
+use Rattle.er7_message.specs.Parsed.{faultOf, StandingOr, ParsedAs}
 use Rattle.er7_message.specs.Inner.{line, LineEnd, HeaderEnd, faultBy, messageBy, linesFault, linesMessage}
 use Rattle.er7_message.proofs.Lines.{line-some}
 use Rattle.er7_message.proofs.Segments.{line-length}
@@ -55,7 +57,7 @@ header-read {s} {t} {e} h last p = rw (first-line (h .end), h .header, ← h .na
 
 -- ---- a store that begins with the text: the tables stand for the same over it
 
-pub standing-over : (t store : Text) (m : Message) (segs cells : List ℕ) (a : ParsedMessage) → take (length t) store ≡ t → length t ≤ length store → Stands t m segs cells a → Stands store m segs cells a
+pub standing-over : (t store : Text) (m : Message) (segs cells : List ℕ) (a : ParsedMessage) → take (length t) store ≡ t → length t ≤ length store → StandingOr t m segs cells a → StandingOr store m segs cells a
 standing-over t store m segs cells (Read c) q h w = record {
   separators = w .separators;
   last = w .last;
@@ -63,8 +65,8 @@ standing-over t store m segs cells (Read c) q h w = record {
   good = record { rows = w .good .rows; room = omega arith; ends = λ i x. omega (arith, w .good .ends i x) };
   placed = record { within = λ i x. within-more (placeAt cells i) (length t) (length store) h (w .placed .within i x) };
   segmented = w .segmented;
-  at-most-256 = w .at-most-256;
-  at-most-4096 = w .at-most-4096;
+  segments-most = w .segments-most;
+  leaves-most = w .leaves-most;
 }
 standing-over t store m segs cells (Refused e) q h w = tt
 
@@ -80,19 +82,19 @@ cr-long [] q z = clash (sym z ∙ q)
 cr-long (x ∷ t) q z = omega arith
 
 module _ (t : Text) where
-  pub message-long : 32768 < length t → (m : Message) (segs cells : List ℕ) → ParsedAs t (messageFault t) m segs cells (Refused TooLong)
+  pub message-long : INPUT_MAX < length t → (m : Message) (segs cells : List ℕ) → ParsedAs t (messageFault t) m segs cells (Refused TooLong)
   unfolding messageFault tooLong faultOf
-  message-long h m segs cells = record { is = rw (lt-ltb 32768 (length t) h); tables = tt }
+  message-long h m segs cells = record { is = rw (lt-ltb INPUT_MAX (length t) h); tables = tt }
 
-  module _ (h : length t ≤ 32768) {b : Bool} (q : b ≡ all isMessageByte t) where
+  module _ (h : length t ≤ INPUT_MAX) {b : Bool} (q : b ≡ noForeign Inputs.Message t) where
     pub message-foreign : b ≡ false → (m : Message) (segs cells : List ℕ) → ParsedAs t (messageFault t) m segs cells (Refused ForeignByte)
     unfolding messageFault tooLong faultOf
-    message-foreign e m segs cells = record { is = rw (le-ltb 32768 (length t) h, sym q ∙ e); tables = tt }
+    message-foreign e m segs cells = record { is = rw (le-ltb INPUT_MAX (length t) h, sym q ∙ e); tables = tt }
 
     module _ (z : b ≡ true) where
       fault-is : messageFault t ≡ linesFault (withoutLastCR t)
       unfolding messageFault tooLong linesFault faultBy
-      fault-is = rw (le-ltb 32768 (length t) h, sym q ∙ z)
+      fault-is = rw (le-ltb INPUT_MAX (length t) h, sym q ∙ z)
 
       message-is : messageOf t ≡ linesMessage (endsInCR t) (withoutLastCR t)
       unfolding messageOf linesMessage messageBy

@@ -15,11 +15,12 @@ use Rattle.text.specs.Text.{Text}
 use Rattle.text.proofs.Laws.{split, zero-or}
 use Rattle.refusal.specs.declared.Refusal.{Refusal}
 use Rattle.refusal.specs.declared.Refusal.the-variants.{BadSegment, TooMany}
+use Rattle.refusal.specs.Limits.{LEAVES_MAX, SEGMENTS_MAX}
 use Rattle.er7.specs.declared.separators.Separators.{Separators}
 use Rattle.message_model.specs.Message.{Label, Segment, segment, Message, leavesOf, isNamed, count, segments, segmentLines, segmentsFault}
 use Rattle.er7_table.specs.Filling.{LeafRoom}
 use Rattle.er7_table.specs.Table.{cell, listOf, Good, Placed, firstLeaf, nameAt, labelAt, segmentAt, segmentsFrom}
-use Rattle.er7_table.proofs.Laws.{list-snoc, list-ext, list-length, place-kept, leaves-kept, name-kept, label-kept, first-kept}
+use Rattle.er7_table.proofs.Laws.{list-snoc, list-ext, place-kept, leaves-kept, name-kept, label-kept, first-kept}
 use Rattle.er7_message.specs.declared.message.ParsedMessage.the-variants.{Read, Refused}
 use Rattle.er7_message.specs.Parsed.{faultOf, ParsedAs}
 use Rattle.er7_message.specs.Inner.{line, LineEnd, faultBy, messageBy, names, Numbered, SegmentFits, SegmentRead, Reading}
@@ -27,7 +28,7 @@ use Rattle.er7_message.proofs.Lines.{line-last, line-next, line-some}
 
 -- ---- room in the table of leaves
 
-room-rows : (r : ℕ) {cells : List ℕ} {m : ℕ} → LeafRoom cells m → r ≤ 4096 → r ≤ m → r * 8 ≤ length cells
+room-rows : (r : ℕ) {cells : List ℕ} {m : ℕ} → LeafRoom cells m → r ≤ LEAVES_MAX → r ≤ m → r * 8 ≤ length cells
 room-rows r h a b = zero-or r (λ e. rw e (omega arith)) (λ e. omega (arith, h .room (r - 1) (omega arith) (omega arith)))
 
 pub room-kept : {cells cells′ : List ℕ} {m : ℕ} → LeafRoom cells m → length cells′ ≡ length cells → LeafRoom cells′ m
@@ -58,10 +59,10 @@ reading-start s t segs cells h = record {
 
 -- ---- one line more
 
-fault-on : (s : Separators) (k n : ℕ) (l : Text) (ls : List Text) {r : ℕ} → eqb k 0 || isNamed s l ≡ true → k < 256 → r ≡ n + length (leavesOf s (eqb k 0) l) → r ≤ 4096
+fault-on : (s : Separators) (k n : ℕ) (l : Text) (ls : List Text) {r : ℕ} → eqb k 0 || isNamed s l ≡ true → k < SEGMENTS_MAX → r ≡ n + length (leavesOf s l) → r ≤ LEAVES_MAX
     → segmentsFault s k n (l ∷ ls) ≡ segmentsFault s (k + 1) r ls
 unfolding segmentsFault
-fault-on s k n l ls {r} e h q m = rw (e, lt-leb 256 k h, ← q, le-ltb 4096 r m)
+fault-on s k n l ls {r} e h q m = rw (e, lt-leb SEGMENTS_MAX k h, ← q, le-ltb LEAVES_MAX r m)
 
 module _ {s : Separators} {t l : Text} {segs cells segs′ cells′ : List ℕ} {k n r : ℕ} {ls : List Text}
     (go : Reading s t segs cells k n (l ∷ ls)) (f : SegmentFits s t l k n segs cells segs′ cells′ r) where
@@ -130,11 +131,9 @@ module _ {s : Separators} {t l : Text} {segs cells segs′ cells′ : List ℕ} 
 
   segment-here : segments s (names segs 0 k) (l ∷ ls) ≡ segmentAt (λ i. false) segs′ cells′ t k ∷ segments s (names segs′ 0 (k + 1)) ls
   unfolding segments segmentAt
-  segment-here =
-      let len : length (names segs 0 k) ≡ k = unfold names in list-length (nameAt segs) 0 k in
-      rw (len, f .label, f .begins, f .ends, f .filled .are, names-more)
+  segment-here = rw (f .label, f .begins, f .ends, f .filled .are, names-more)
 
-  slots-more : LeafRoom cells′ (length t) → r ≤ 4096 → r ≤ length t → Good cells′ t r (length t)
+  slots-more : LeafRoom cells′ (length t) → r ≤ LEAVES_MAX → r ≤ length t → Good cells′ t r (length t)
   slots-more h m a = record {
     rows = room-rows r h m a;
     room = omega arith;
@@ -150,7 +149,7 @@ module _ {s : Separators} {t l : Text} {segs cells segs′ cells′ : List ℕ} 
         (λ y. f .filled .within i y x);
   }
 
-  pub reading-more : r ≤ 4096 → r ≤ length t → eqb k 0 || isNamed s l ≡ true → LeafRoom cells′ (length t) → Reading s t segs′ cells′ (k + 1) r ls
+  pub reading-more : r ≤ LEAVES_MAX → r ≤ length t → eqb k 0 || isNamed s l ≡ true → LeafRoom cells′ (length t) → Reading s t segs′ cells′ (k + 1) r ls
   reading-more m a e h = record {
     many = omega (arith, f .few);
     few = m;
@@ -173,7 +172,7 @@ fault-bad : (s : Separators) (k n : ℕ) (l : Text) (ls : List Text) → eqb k 0
 unfolding segmentsFault
 fault-bad s k n l ls e = rw e
 
-fault-too-many : (s : Separators) (k n : ℕ) (l : Text) (ls : List Text) → eqb k 0 || isNamed s l ≡ true → leb 256 k || ltb 4096 (n + length (leavesOf s (eqb k 0) l)) ≡ true
+fault-too-many : (s : Separators) (k n : ℕ) (l : Text) (ls : List Text) → eqb k 0 || isNamed s l ≡ true → leb SEGMENTS_MAX k || ltb LEAVES_MAX (n + length (leavesOf s l)) ≡ true
     → segmentsFault s k n (l ∷ ls) ≡ some TooMany
 unfolding segmentsFault
 fault-too-many s k n l ls e q = rw (e, q)
@@ -202,8 +201,8 @@ reading-all {s} {t} {segs} {cells} {k} {n} go h last = record {
     good = go .slots;
     placed = go .placed;
     segmented = record { rows = omega (arith, go .many); none-before = go .none-before h; order = order go; all = go .all h };
-    at-most-256 = go .many;
-    at-most-4096 = go .few;
+    segments-most = go .many;
+    leaves-most = go .few;
   };
 }
 
@@ -215,12 +214,12 @@ module _ {s : Separators} {t : Text} {segs cells : List ℕ} {k n i e : ℕ} (go
       refused BadSegment (go .fault ∙ ap (segmentsFault s k n) (ls .1) ∙ fault-bad s k n (line t i e) (ls .0) q) m segs′ cells′
 
   module _ (q : eqb k 0 || isNamed s (line t i e) ≡ true) {segs′ cells′ : List ℕ} {r : ℕ} (w : SegmentRead s t (line t i e) e k n segs cells segs′ cells′ r) where
-    pub line-too-many : 4096 < r → (m : Message) (segs″ cells″ : List ℕ) → ParsedAs t (faultBy s t) m segs″ cells″ (Refused TooMany)
+    pub line-too-many : LEAVES_MAX < r → (m : Message) (segs″ cells″ : List ℕ) → ParsedAs t (faultBy s t) m segs″ cells″ (Refused TooMany)
     line-too-many h m segs″ cells″ =
         let ls = line-some g in
         refused TooMany (go .fault ∙ ap (segmentsFault s k n) (ls .1) ∙ fault-too-many s k n (line t i e) (ls .0) q (w .too-many h)) m segs″ cells″
 
-    module _ (h : r ≤ 4096) (room : LeafRoom cells′ (length t)) where
+    module _ (h : r ≤ LEAVES_MAX) (room : LeafRoom cells′ (length t)) where
       pub line-on : e < length t → Reading s t segs′ cells′ (k + 1) r (segmentLines [] (drop (e + 1) t))
       line-on x = reading-more (rw (line-next g x) at go) (w .fitted h) h (omega (arith, w .few h, g .high)) q room
 
@@ -234,10 +233,10 @@ judged k h b e f = rw (ne-eqb k 0 (λ q. absurd (omega arith))) (sym e ∙ f)
 -- ---- the header, which is the first line
 module _ {s : Separators} {t : Text} {segs cells segs′ cells′ : List ℕ} {e r : ℕ} (g : LineEnd t 0 e) (w : SegmentRead s t (line t 0 e) e 0 0 segs cells segs′ cells′ r)
     (room : LeafRoom cells (length t)) where
-  pub header-too-many : 4096 < r → (m : Message) (segs″ cells″ : List ℕ) → ParsedAs t (faultBy s t) m segs″ cells″ (Refused TooMany)
+  pub header-too-many : LEAVES_MAX < r → (m : Message) (segs″ cells″ : List ℕ) → ParsedAs t (faultBy s t) m segs″ cells″ (Refused TooMany)
   header-too-many h = line-too-many (reading-start s t segs cells room) g refl w h
 
-  module _ (h : r ≤ 4096) (room′ : LeafRoom cells′ (length t)) where
+  module _ (h : r ≤ LEAVES_MAX) (room′ : LeafRoom cells′ (length t)) where
     pub header-on : e < length t → Reading s t segs′ cells′ 1 r (segmentLines [] (drop (e + 1) t))
     header-on x = line-on (reading-start s t segs cells room) g refl w h room′ x
 

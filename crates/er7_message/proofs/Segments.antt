@@ -7,21 +7,22 @@ use mathlib.Core.Logic.{dite}
 use Prim.Native.Nat.{ℕ, suc, _+_, _-_, _≤_, _<_}
 use native.Mathlib.Decide.{ℕ-discrete}
 use native.Mathlib.Omega.{arith}
-use borrow.Author.Tests.{le-leb, lt-ltb, ne-eqb}
-use lib.Dec.{eqb, leb}
+use borrow.Author.Tests.{le-leb, lt-ltb}
+use lib.Dec.{leb}
 use lib.ListN.{length, take, drop, getD, drop-of-length-le, length-take, length-drop}
 use lib.Seq.{drop-drop, drop-cons, getD-take, slice-cons}
 use Rattle.text.specs.Text.{Text, part, between}
 use Rattle.text.proofs.Kept.{between-is}
 use Rattle.er7.specs.declared.message.Place.{Place}
 use Rattle.er7.specs.declared.separators.Separators.{Separators}
-use Rattle.message_model.specs.Message.{leaf, next, leaves, leavesBehind, atField, leavesOf, separatorsOf, isNamed, count}
+use Rattle.message_model.specs.Message.{leaf, next, leaves, leavesBehind, atField, isHeaderName, headerLeaves, leavesOf, separatorsOf, isNamed, count}
 use Rattle.message_model.proofs.Faultless.{named-line}
 use Rattle.er7_table.specs.Table.{cell, listOf, placeAt, leafAt, leavesFrom, Within}
 use Rattle.er7_table.specs.Filling.{LeafPut, SegmentPut, Filled, LeavesRead}
 use Rattle.er7_table.proofs.Laws.{leaf-kept, place-kept}
 use Rattle.er7_table.proofs.Reading.{within-next, read-front}
 use Rattle.er7_message.specs.Inner.{line, names, SegmentRead}
+use Rattle.refusal.specs.Limits.{LEAVES_MAX, SEGMENTS_MAX}
 
 -- ---- leaves behind a name or MSH-2
 
@@ -55,7 +56,7 @@ pub within-behind : (s : Separators) (x n i : ℕ) {p : Place} → p ≡ next s 
 within-behind s x n i e h k = rw e (within-next s x (inField n) i (within-field n i h k))
 
 module _ (s : Separators) (t : Text) (from end field n : ℕ) (cells : List ℕ) where
-  pub behind-none : from ≡ end → n ≤ 4096 → n < from → LeavesRead (leavesBehind s (atField field) (drop from (take end t))) t end n cells cells n
+  pub behind-none : from ≡ end → n ≤ LEAVES_MAX → n < from → LeavesRead (leavesBehind s (atField field) (drop from (take end t))) t end n cells cells n
   unfolding leavesBehind leavesFrom listOf
   behind-none e h a =
       let d : drop from (take end t) ≡ [] = drop-of-length-le (take end t) {i = from} (simp length-take (omega arith)) in
@@ -92,6 +93,10 @@ line-length t i e l = ap length (line-from t i e) ∙ simp (length-drop, length-
 pub named-long : (s : Separators) (t : Text) (i e : ℕ) → e ≤ length t → {b : Bool} → b ≡ isNamed s (line t i e) → b ≡ true → i + 3 ≤ e
 named-long s t i e l q z = omega (arith, named-line s (line t i e) (sym q ∙ z) .long, line-length t i e l)
 
+-- and not a header's
+pub named-no-header : (s : Separators) (t : Text) (i e : ℕ) {b : Bool} → b ≡ isNamed s (line t i e) → b ≡ true → isHeaderName (take 3 (line t i e)) ≡ false
+named-no-header s t i e q z = named-line s (line t i e) (sym q ∙ z) .no-header
+
 pub line-name : (t : Text) (i e : ℕ) → e ≤ length t → i + 3 ≤ e → take 3 (line t i e) ≡ getD t i 0 ∷ getD t (i + 1) 0 ∷ getD t (i + 2) 0 ∷ []
 line-name t i e l h =
     ap (take 3) (line-from t i e ∙ d i (omega arith) ∙ ap (λ (z : Text). getD t i 0 ∷ z) (d (i + 1) (omega arith) ∙ ap (λ (z : Text). getD t (i + 1) 0 ∷ z) (ap (λ (j : ℕ). drop j (take e t)) two ∙ d (i + 2) (omega arith))))
@@ -109,35 +114,35 @@ or-true true = refl
 or-true false = refl
 
 module _ (s : Separators) (t : Text) (i e k n : ℕ) (segs cells : List ℕ) where
-  leaves-are : 1 ≤ k → leavesOf s (eqb k 0) (line t i e) ≡ leavesBehind s (atField 0) (drop (i + 3) (take e t))
+  leaves-are : isHeaderName (take 3 (line t i e)) ≡ false → leavesOf s (line t i e) ≡ leavesBehind s (atField 0) (drop (i + 3) (take e t))
   unfolding leavesOf
-  leaves-are one = rw (ne-eqb k 0 (λ q. absurd (omega arith)), line-from t i e, drop-drop 3 i (take e t))
+  leaves-are z = rw (z, line-from t i e, drop-drop 3 i (take e t))
 
   pub segment-257 : (segs′ cells′ : List ℕ) → k ≡ 256 → SegmentRead s t (line t i e) e k n segs cells segs′ cells′ 4097
   segment-257 segs′ cells′ q = record {
     fitted = λ h. absurd (omega (arith, h));
     few = λ h. absurd (omega (arith, h));
-    too-many = λ _. rw (le-leb 256 k (omega arith));
+    too-many = λ _. rw (le-leb SEGMENTS_MAX k (omega arith));
     most = omega arith;
   }
 
-  module _ (one : 1 ≤ k) {cells′ : List ℕ} {m : ℕ} (g : LeavesRead (leavesBehind s (atField 0) (drop (i + 3) (take e t))) t e n cells cells′ m) where
-    pub segment-too-many : (segs′ : List ℕ) → 4096 < m → SegmentRead s t (line t i e) e k n segs cells segs′ cells′ 4097
+  module _ (z : isHeaderName (take 3 (line t i e)) ≡ false) {cells′ : List ℕ} {m : ℕ} (g : LeavesRead (leavesBehind s (atField 0) (drop (i + 3) (take e t))) t e n cells cells′ m) where
+    pub segment-too-many : (segs′ : List ℕ) → LEAVES_MAX < m → SegmentRead s t (line t i e) e k n segs cells segs′ cells′ 4097
     segment-too-many segs′ h = record {
       fitted = λ h. absurd (omega (arith, h));
       few = λ h. absurd (omega (arith, h));
-      too-many = λ _. rw (leaves-are one, lt-ltb 4096 (n + length (leavesBehind s (atField 0) (drop (i + 3) (take e t)))) (g .too-many h)) (or-true (leb 256 k));
+      too-many = λ _. rw (leaves-are z, lt-ltb LEAVES_MAX (n + length (leavesBehind s (atField 0) (drop (i + 3) (take e t)))) (g .too-many h)) (or-true (leb SEGMENTS_MAX k));
       most = omega arith;
     }
 
-    pub segment-fits : e ≤ length t → i + 3 ≤ e → k < 256 → m ≤ 4096 → {segs′ : List ℕ} {o : ℕ}
+    pub segment-fits : e ≤ length t → i + 3 ≤ e → k < SEGMENTS_MAX → m ≤ LEAVES_MAX → {segs′ : List ℕ} {o : ℕ}
         → o ≡ count (getD t i 0 ∷ getD t (i + 1) 0 ∷ getD t (i + 2) 0 ∷ []) (names segs 0 k) + 1
-        → SegmentPut segs k n (getD t i 0) (getD t (i + 1) 0) (getD t (i + 2) 0) o 0 m segs′ → SegmentRead s t (line t i e) e k n segs cells segs′ cells′ m
+        → SegmentPut segs k n (getD t i 0) (getD t (i + 1) 0) (getD t (i + 2) 0) o m segs′ → SegmentRead s t (line t i e) e k n segs cells segs′ cells′ m
     segment-fits l w few h {segs′} {o} c p = record {
       fitted = λ _. record {
         few = few;
-        filled = rw (leaves-are one) (g .fitted h);
-        label = p .label ∙ rw (c, line-name t i e l w, ne-eqb k 0 (λ q. absurd (omega arith)));
+        filled = rw (leaves-are z) (g .fitted h);
+        label = p .label ∙ rw (c, line-name t i e l w);
         begins = p .begins;
         ends = p .ends;
         rows = p .other;
@@ -150,7 +155,8 @@ module _ (s : Separators) (t : Text) (i e k n : ℕ) (segs cells : List ℕ) whe
 
 -- ---- the header
 
-module _ (s : Separators) (t : Text) (e : ℕ) (long : 8 ≤ e) (inside : e ≤ length t) (named : s ≡ separatorsOf (line t 0 e)) where
+module _ (s : Separators) (t : Text) (e : ℕ) (long : 8 ≤ e) (inside : e ≤ length t) (named : s ≡ separatorsOf (line t 0 e))
+    (header : isHeaderName (take 3 (line t 0 e)) ≡ true) where
   line-0 : line t 0 e ≡ take e t
   line-0 = line-from t 0 e
 
@@ -174,19 +180,19 @@ module _ (s : Separators) (t : Text) (e : ℕ) (long : 8 ≤ e) (inside : e ≤ 
         getD-take e t 7 0 (omega arith),
       )
 
-  leaves-are-three : leavesOf s true (line t 0 e)
+  leaves-are-three : leavesOf s (line t 0 e)
       ≡ leaf (inField 1) false (some (s .field ∷ [])) ∷ leaf (inField 2) false (some (s .component ∷ s .repetition ∷ s .escape ∷ s .subcomponent ∷ []))
       ∷ leavesBehind s (atField 2) (drop 8 (take e t))
-  unfolding leavesOf atField
-  leaves-are-three = rw line-0
+  unfolding leavesOf headerLeaves atField
+  leaves-are-three = rw (header, line-0)
 
   module _ {cells cells₁ cells₂ cells′ : List ℕ} {r : ℕ} (p : LeafPut cells 0 (inField 1) 3 1 cells₁) (q : LeafPut cells₁ 1 (inField 2) 4 4 cells₂)
       (g : LeavesRead (leavesBehind s (atField 2) (drop 8 (take e t))) t e 2 cells₂ cells′ r) where
-    pub header-too-many : (segs segs′ : List ℕ) → 4096 < r → SegmentRead s t (line t 0 e) e 0 0 segs cells segs′ cells′ 4097
+    pub header-too-many : (segs segs′ : List ℕ) → LEAVES_MAX < r → SegmentRead s t (line t 0 e) e 0 0 segs cells segs′ cells′ 4097
     header-too-many segs segs′ h = record {
       fitted = λ h. absurd (omega (arith, h));
       few = λ h. absurd (omega (arith, h));
-      too-many = λ _. rw leaves-are-three (lt-ltb 4096 (0 + suc (suc (length (leavesBehind s (atField 2) (drop 8 (take e t)))))) (omega (arith, g .too-many h)));
+      too-many = λ _. rw leaves-are-three (lt-ltb LEAVES_MAX (0 + suc (suc (length (leavesBehind s (atField 2) (drop 8 (take e t)))))) (omega (arith, g .too-many h)));
       most = omega arith;
     }
 
@@ -222,7 +228,7 @@ module _ (s : Separators) (t : Text) (e : ℕ) (long : 8 ≤ e) (inside : e ≤ 
         (λ y. rw (y, place-kept cells₂ cells′ 1 kept-1, q .place) (within-field 2 (length t) (omega arith) (omega arith)))
         (λ y. f .within i (omega arith) b))
 
-    header-filled : (f : Filled (leavesBehind s (atField 2) (drop 8 (take e t))) t 2 cells′ r) → Filled (leavesOf s true (line t 0 e)) t 0 cells′ r
+    header-filled : (f : Filled (leavesBehind s (atField 2) (drop 8 (take e t))) t 2 cells′ r) → Filled (leavesOf s (line t 0 e)) t 0 cells′ r
     header-filled f =
         let z : r - 0 ≡ suc (suc (r - 2)) = omega (arith, f .count) in
         rw leaves-are-three (record {
@@ -232,7 +238,7 @@ module _ (s : Separators) (t : Text) (e : ℕ) (long : 8 ≤ e) (inside : e ≤ 
           within = header-within f;
         })
 
-    pub header-fits : r ≤ 4096 → {segs segs′ : List ℕ} → SegmentPut segs 0 0 (getD t 0 0) (getD t 1 0) (getD t 2 0) 1 1 r segs′ → SegmentRead s t (line t 0 e) e 0 0 segs cells segs′ cells′ r
+    pub header-fits : r ≤ LEAVES_MAX → {segs segs′ : List ℕ} → SegmentPut segs 0 0 (getD t 0 0) (getD t 1 0) (getD t 2 0) 1 r segs′ → SegmentRead s t (line t 0 e) e 0 0 segs cells segs′ cells′ r
     unfolding names listOf count
     header-fits h {segs} {segs′} w = record {
       fitted = λ _. record {

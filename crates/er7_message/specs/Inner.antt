@@ -3,12 +3,13 @@ use mathlib.Core.Path.{_≡_}
 use mathlib.Core.Bool.{Bool, true, false, not, cond, _||_}
 use mathlib.Core.List.{List, [], _++_}
 use mathlib.Core.Option.{Option, some}
-use Prim.Native.Nat.{ℕ, _+_, _-_, _*_, _≤_, _<_}
-use lib.Dec.{eqb, leb, ltb}
+use Prim.Native.Nat.{ℕ, _+_, _-_, _≤_, _<_}
+use lib.Dec.{leb, ltb}
 use lib.ListN.{length, take, drop, getD}
 use Rattle.text.specs.Text.{Text, part}
 use Rattle.refusal.specs.declared.Refusal.{Refusal}
 use Rattle.refusal.specs.declared.Refusal.the-variants.{BadHeader}
+use Rattle.refusal.specs.Limits.{LEAVES_MAX, SEGMENTS_MAX}
 use Rattle.er7.specs.declared.separators.Separators.{Separators}
 use Rattle.message_model.specs.Message.{Message, separatorsOf, isHeader, segmentLines, firstOf, leavesOf, count, segments, segmentsFault}
 use Rattle.er7_table.specs.Table.{cell, listOf, Good, Placed, firstLeaf, nameAt, labelAt, segmentsFrom}
@@ -63,9 +64,9 @@ pub record Numbered (segs : List ℕ) (k : ℕ) : Type 0 where
 
 -- the line l became row k, behind rows with n leaves, and its leaves the rows from n to before r
 pub record SegmentFits (s : Separators) (t l : Text) (k n : ℕ) (segs cells segs′ cells′ : List ℕ) (r : ℕ) : Type 0 where
-  pub few : k < 256
-  pub filled : Filled (leavesOf s (eqb k 0) l) t n cells′ r
-  pub label : labelAt segs′ k ≡ record { name = take 3 l; occurrence = count (take 3 l) (names segs 0 k) + 1; header = eqb k 0 }
+  pub few : k < SEGMENTS_MAX
+  pub filled : Filled (leavesOf s l) t n cells′ r
+  pub label : labelAt segs′ k ≡ record { name = take 3 l; occurrence = count (take 3 l) (names segs 0 k) + 1 }
   pub begins : firstLeaf segs′ k ≡ n
   pub ends : firstLeaf segs′ (k + 1) ≡ r
   pub rows : (i j : ℕ) → j < 8 → i < k → cell segs′ i j ≡ cell segs i j
@@ -73,15 +74,15 @@ pub record SegmentFits (s : Separators) (t l : Text) (k n : ℕ) (segs cells seg
 
 -- it did, and there are no more leaves than bytes before index e; or it is one segment or some leaves too many
 pub record SegmentRead (s : Separators) (t l : Text) (e k n : ℕ) (segs cells segs′ cells′ : List ℕ) (r : ℕ) : Type 0 where
-  pub fitted : r ≤ 4096 → SegmentFits s t l k n segs cells segs′ cells′ r
-  pub few : r ≤ 4096 → r ≤ e
-  pub too-many : 4096 < r → leb 256 k || ltb 4096 (n + length (leavesOf s (eqb k 0) l)) ≡ true
+  pub fitted : r ≤ LEAVES_MAX → SegmentFits s t l k n segs cells segs′ cells′ r
+  pub few : r ≤ LEAVES_MAX → r ≤ e
+  pub too-many : LEAVES_MAX < r → leb SEGMENTS_MAX k || ltb LEAVES_MAX (n + length (leavesOf s l)) ≡ true
   pub most : r ≤ 4097
 
 -- ---- the segments before the lines ls stand in k rows, with n leaves
 pub record Reading (s : Separators) (t : Text) (segs cells : List ℕ) (k n : ℕ) (ls : List Text) : Type 0 where
-  pub many : k ≤ 256
-  pub few : n ≤ 4096
+  pub many : k ≤ SEGMENTS_MAX
+  pub few : n ≤ LEAVES_MAX
   pub none-yet : k ≡ 0 → n ≡ 0
   pub fault : faultBy s t ≡ segmentsFault s k n ls
   pub read : segments s [] (segmentLines [] t) ≡ segmentsFrom (λ i. false) segs cells t 0 k ++ segments s (names segs 0 k) ls

@@ -3,25 +3,32 @@ use super::separators::is_header;
 use super::separators::separators_of;
 use er7::separators::Separators;
 use er7_table::table::at_field;
+use er7_table::table::is_header_name;
 use er7_table::table::next;
 use er7_table::table::put_leaf;
 use er7_table::table::put_segment;
 use er7_table::table::read_leaves;
 use refusal::Refusal;
-use text::bytes::same_bytes;
+use refusal::input::Input;
+use refusal::input::no_foreign;
+use refusal::limits::INPUT_MAX;
+use refusal::limits::LEAVES_MAX;
+use refusal::limits::SEGMENTS_MAX;
 ghost use mathlib.Core.Path.{_≡_};
+ghost use mathlib.Core.Bool.{true, false};
 ghost use mathlib.Core.List.{[], _∷_};
 ghost use Prim.Native.Nat.{_+_, _*_, _≤_, _<_};
 ghost use lib.ListN.{length, take, drop};
-ghost use Rattle.text.specs.Text.{all, same};
-ghost use Rattle.message_model.specs.Message.{isMessageByte, endsInCR, isNameByte, isName, isNamed, separatorsOf, count, atField, leavesBehind, segmentLines, messageFault, messageOf};
+ghost use Rattle.text.specs.Text.{same};
+ghost use Rattle.message_model.specs.Message.{isHeaderName, endsInCR, isNameByte, isName, isNamed, separatorsOf, count, atField, leavesBehind, segmentLines, messageFault, messageOf};
 ghost use Rattle.er7_table.specs.Table.{nameAt};
 ghost use Rattle.er7_table.specs.Filling.{LeafRoom, LeavesRead};
 ghost use Rattle.er7_message.specs.Parsed.{ParsedAs};
 ghost use Rattle.er7_message.specs.Inner.{line, LineEnd, names, Numbered, SegmentRead, Reading, HeaderEnd, faultBy, messageBy, linesFault, linesMessage};
+ghost use Rattle.refusal.specs.Limits.{LEAVES_MAX, SEGMENTS_MAX};
 
 // A message that was read: its delimiters, how many segments and leaves stand in the tables, and whether its last byte is a CR.
-pub struct Counts {
+pub struct Layout {
     pub separators: Separators,
     pub segments: usize,
     pub leaves: usize,
@@ -29,28 +36,8 @@ pub struct Counts {
 }
 
 pub enum ParsedMessage {
-    Read(Counts),
+    Read(Layout),
     Refused(Refusal),
-}
-
-// Whether b may stand in a message.
-fn is_message_byte(b: u8) -> bool
-    ensures { λ r. ⌜ r ≡ isMessageByte b ⌝ }
-{
-    (b == 9) | ((32 <= b) & (b <= 126)) | (b == 13)
-}
-
-// Whether every byte may stand in a message.
-fn are_message_bytes(text: &[u8]) -> bool
-    ensures { λ r. ⌜ r ≡ all isMessageByte (now (text .entry)) ⌝ }
-{
-    let mut fine = true;
-    let mut i = 0;
-    while i < text.len() {
-        fine = fine & is_message_byte(text[i]);
-        i += 1;
-    }
-    fine
 }
 
 // Whether the last byte is a CR.
@@ -91,10 +78,8 @@ fn is_name(n: &[u8]) -> bool
     ensures { λ r. ⌜ r ≡ isName (now (n .entry)) ⌝ }
 {
     let letters = is_name_byte(n[0]) & (is_name_byte(n[1]) & is_name_byte(n[2]));
-    let msh = same_bytes(n, b"MSH");
-    let fhs = same_bytes(n, b"FHS");
-    let bhs = same_bytes(n, b"BHS");
-    letters & !msh & !fhs & !bhs
+    let header = is_header_name(n[0], n[1], n[2]);
+    letters & !header
 }
 
 // Whether a line begins with a name, behind which comes a field delimiter or the end.
@@ -124,7 +109,7 @@ fn has_name(segs: &[usize; 2056], k: usize, a: usize, b: usize, c: usize) -> boo
 
 // The occurrence of a segment with the name a b c behind k segments: one more than that of the last of this name.
 fn occurrence(segs: &[usize; 2056], k: usize, a: usize, b: usize, c: usize) -> usize
-    requires { ⌜ (k ≤ 256) × Numbered (now segs) k ⌝ }
+    requires { ⌜ (k ≤ SEGMENTS_MAX) × Numbered (now segs) k ⌝ }
     ensures { λ r. ⌜ r ≡ count (a ∷ b ∷ c ∷ []) (names (now (segs .entry)) 0 k) + 1 ⌝ }
 {
     let mut j = k;
@@ -149,7 +134,7 @@ fn read_behind(
     n: usize,
     cells: &mut [usize],
 ) -> usize
-    requires { ⌜ (1 ≤ from) × (field ≤ from) × (from ≤ end) × (end ≤ length (now text)) × (n ≤ 4096) × (n < from) × LeafRoom (now cells) (length (now text)) ⌝ }
+    requires { ⌜ (1 ≤ from) × (field ≤ from) × (from ≤ end) × (end ≤ length (now text)) × (n ≤ LEAVES_MAX) × (n < from) × LeafRoom (now cells) (length (now text)) ⌝ }
     ensures { λ r. ⌜ LeavesRead (leavesBehind s (atField field) (drop from (take end (now (text .entry))))) (now (text .entry)) end n (now (cells .entry)) (now (cells .exit)) r ⌝ }
 {
     if from == end {
@@ -159,7 +144,7 @@ fn read_behind(
     read_leaves(&text[0..end], from + 1, s, p, n, cells)
 }
 
-// Reads the line from index i to index e, which has a name, as segment k behind n leaves.
+// Reads the line from index i to index e, which has a name and is no header, as segment k behind n leaves.
 // Returns the number of leaves then; 4097 if there are more than 256 segments or 4096 leaves.
 fn read_segment(
     text: &[u8],
@@ -171,21 +156,21 @@ fn read_segment(
     segs: &mut [usize; 2056],
     cells: &mut [usize],
 ) -> usize
-    requires { ⌜ (i + 3 ≤ e) × (e ≤ length (now text)) × (1 ≤ k) × (k ≤ 256) × (n ≤ 4096) × (n ≤ i) × LeafRoom (now cells) (length (now text)) × Numbered (now segs) k ⌝ }
+    requires { ⌜ (i + 3 ≤ e) × (e ≤ length (now text)) × (k ≤ SEGMENTS_MAX) × (n ≤ LEAVES_MAX) × (n ≤ i) × LeafRoom (now cells) (length (now text)) × Numbered (now segs) k × (isHeaderName (take 3 (line (now text) i e)) ≡ false) ⌝ }
     ensures { λ r. ⌜ SegmentRead s (now (text .entry)) (line (now (text .entry)) i e) e k n (now (segs .entry)) (now (cells .entry)) (now (segs .exit)) (now (cells .exit)) r ⌝ }
 {
-    if k == 256 {
+    if k == SEGMENTS_MAX {
         return 4097;
     }
     let m = read_behind(text, i + 3, e, s, 0, n, cells);
-    if 4096 < m {
+    if LEAVES_MAX < m {
         return 4097;
     }
     let a = text[i] as usize;
     let b = text[i + 1] as usize;
     let c = text[i + 2] as usize;
     let number = occurrence(segs, k, a, b, c);
-    put_segment(segs, k, n, a, b, c, number, 0, m);
+    put_segment(segs, k, n, a, b, c, number, m);
     m
 }
 
@@ -198,19 +183,19 @@ fn read_header(
     segs: &mut [usize; 2056],
     cells: &mut [usize],
 ) -> usize
-    requires { ⌜ (8 ≤ e) × (e ≤ length (now text)) × (s ≡ separatorsOf (line (now text) 0 e)) × LeafRoom (now cells) (length (now text)) ⌝ }
+    requires { ⌜ (8 ≤ e) × (e ≤ length (now text)) × (s ≡ separatorsOf (line (now text) 0 e)) × LeafRoom (now cells) (length (now text)) × (isHeaderName (take 3 (line (now text) 0 e)) ≡ true) ⌝ }
     ensures { λ r. ⌜ SegmentRead s (now (text .entry)) (line (now (text .entry)) 0 e) e 0 0 (now (segs .entry)) (now (cells .entry)) (now (segs .exit)) (now (cells .exit)) r ⌝ }
 {
     put_leaf(cells, 0, at_field(1), 3, 1);
     put_leaf(cells, 1, at_field(2), 4, 4);
     let n = read_behind(text, 8, e, s, 2, 2, cells);
-    if 4096 < n {
+    if LEAVES_MAX < n {
         return 4097;
     }
     let a = text[0] as usize;
     let b = text[1] as usize;
     let c = text[2] as usize;
-    put_segment(segs, 0, 0, a, b, c, 1, 1, n);
+    put_segment(segs, 0, 0, a, b, c, 1, n);
     n
 }
 
@@ -236,13 +221,13 @@ fn read_rest(
             return ParsedMessage::Refused(Refusal::BadSegment);
         }
         let end = read_segment(text, i, e, s, k, n, segs, cells);
-        if 4096 < end {
+        if LEAVES_MAX < end {
             return ParsedMessage::Refused(Refusal::TooMany);
         }
         n = end;
         k += 1;
         if e == text.len() {
-            return ParsedMessage::Read(Counts {
+            return ParsedMessage::Read(Layout {
                 separators: s,
                 segments: k,
                 leaves: n,
@@ -266,11 +251,11 @@ fn read_lines(
     ensures { λ r. ⌜ ParsedAs (now (text .entry)) (faultBy s (now (text .entry))) (messageBy s last (now (text .entry))) (now (segs .exit)) (now (cells .exit)) r ⌝ }
 {
     let n = read_header(text, e, s, segs, cells);
-    if 4096 < n {
+    if LEAVES_MAX < n {
         return ParsedMessage::Refused(Refusal::TooMany);
     }
     if e == text.len() {
-        return ParsedMessage::Read(Counts {
+        return ParsedMessage::Read(Layout {
             separators: s,
             segments: 1,
             leaves: n,
@@ -303,10 +288,10 @@ pub fn parse(text: &[u8], segs: &mut [usize; 2056], cells: &mut [usize]) -> Pars
     requires { ⌜ LeafRoom (now cells) (length (now text)) ⌝ }
     ensures { λ r. ⌜ ParsedAs (now (text .entry)) (messageFault (now (text .entry))) (messageOf (now (text .entry))) (now (segs .exit)) (now (cells .exit)) r ⌝ }
 {
-    if 32768 < text.len() {
+    if INPUT_MAX < text.len() {
         return ParsedMessage::Refused(Refusal::TooLong);
     }
-    if !are_message_bytes(text) {
+    if !no_foreign(Input::Message, text) {
         return ParsedMessage::Refused(Refusal::ForeignByte);
     }
     if ends_in_cr(text) {

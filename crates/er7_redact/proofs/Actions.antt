@@ -1,29 +1,26 @@
 -- Laws of actions read from an index on. Assumes nothing.
 use mathlib.Core.Path.{_≡_, refl, sym, ap, _∙_}
-use mathlib.Core.List.{[], _∷_, _++_}
+use mathlib.Core.List.{[], _∷_}
 use mathlib.Core.Option.{Option, none, some, Option·map}
 use Prim.Native.Nat.{ℕ, _+_, _-_, _≤_, _<_}
 use native.Mathlib.Omega.{arith}
 use borrow.Author.Tests.{eq-eqb, ne-eqb}
-use lib.ListN.{length, take, drop, getD, length-replicate, length-take, length-drop, drop-of-length-le}
+use lib.ListN.{length, take, drop, getD, length-take, length-drop, drop-of-length-le}
 use Rattle.text.specs.declared.bytes.Class.the-variants.{Blank, NotBlank}
 use Rattle.text.specs.declared.decimal.Number.the-variants.{At, Refused}
 use Rattle.text.specs.Text.{Text, bytes, isIn, isBlank, rest, part, RunEnd}
-use Rattle.text.specs.Number.{eightBytes, takeNumber, asTaken, TakenAt}
-use Rattle.text.proofs.Laws.{zero-or}
+use Rattle.text.specs.Number.{takeNumber, asTaken, TakenAt}
 use Rattle.text.proofs.Runs.{drop-step}
-use Rattle.text.proofs.Spelling.{hexadecimal-length}
 use Rattle.er7_redact.specs.declared.action.Count.{Count}
 use Rattle.er7_redact.specs.declared.action.Count.the-variants.{Of, BadCount}
 use Rattle.er7_redact.specs.declared.action.Verb.{Verb}
-use Rattle.pseudonym.specs.Pseudonym as P
 use Rattle.er7_redact.specs.declared.action.Applied.the-variants.{Written, Nothing}
 use Rattle.er7_redact.specs.declared.action.Action.{Action as HeldAction}
 use Rattle.er7_redact.specs.declared.action.Action.the-variants as Held
 use Rattle.refusal.specs.declared.Refusal.the-variants.{BadAction}
 use Rattle.er7_redact.specs.declared.action.ParsedAction.{ParsedAction}
 use Rattle.er7_redact.specs.declared.action.ParsedAction.the-variants.{Parsed, Refused}
-use Rattle.er7_redact.specs.Action.{Action, apply, asAction, ActionHeld, replacement, name, argument, argumentAt, verb, readAction, withoutPlus, whole, readCount, readMask, readReplace, readArgument, bare, heldAs, orBad, heldAction, heldRead, answer, written, room}
+use Rattle.er7_redact.specs.Action.{Action, replacement, name, argument, argumentAt, verb, readAction, withoutPlus, whole, readCount, readMask, readReplace, readArgument, bare, heldAs, orBad, heldAction, heldRead, answer, written, room}
 use Rattle.er7_redact.specs.Inner.{heldBare, heldCount, heldCounted, CountFrom}
 
 -- ---- counts
@@ -178,17 +175,3 @@ answered-room (some w) {n} e = let q : length w ≡ n = cc in sym q
 
 pub answered-length : (o : Option Text) {n : ℕ} → answer o ≡ Written n → n ≡ length (written o)
 answered-length o e = answered-room o e ∙ room-written o
-
--- a text that is written takes no more room than the policy's text, the value and 16 bytes together
-pub room-most : (key : ℕ) (t : Text) (h : HeldAction) (v : Text) → ActionHeld t h → room (apply key (asAction t h) v) ≤ length t + length v + 16
-unfolding apply asAction room
-room-most key t Held.Keep v g = omega arith
-room-most key t Held.Clear v g = omega arith
-room-most key t Held.Null v g = omega arith
-room-most key t (Held.Replace i n) v g = zero-or n
-    (λ e. rw (replacement-bare t i n e) (unfold bytes in omega arith))
-    (λ z. omega (arith, replacement-length t i n (omega arith) g))
-room-most key t (Held.Mask c) v g = simp length-replicate (omega arith)
-room-most key t (Held.First n) v g = simp length-take (omega arith)
-room-most key t (Held.Last n) v g = simp length-drop (omega arith)
-room-most key t Held.Pseudonym v g = unfold P.pseudonym in omega (arith, hexadecimal-length (P.fold P.OFFSET (eightBytes key ++ v)))

@@ -4,7 +4,7 @@ use mathlib.Core.List.{[], _∷_, _++_}
 use mathlib.Core.Option.{Option, none, some, Option·map}
 use Prim.Native.Nat.{ℕ, _+_, _-_, _≤_}
 use lib.Dec.{eqb}
-use lib.ListN.{length, take}
+use lib.ListN.{length}
 use Rattle.text.specs.Text.{Text, bytes, isWord, part}
 use Rattle.text.specs.Characters.{charCount, firstChars, lastChars, character, oneChar, maskText, skipBlanks, word, behindWord}
 use Rattle.text.specs.Number.{decimal, Taken, taken, refused, takeNumber}

@@ -11,7 +11,7 @@ pub record Rule : Type 0 where
   pub path : Path
   pub action : Action
 
--- a leaf that no rule names is accepted as it is, or rejected with an action
+-- the term "posture": a leaf that no rule names is accepted as it is, or rejected with an action
 pub data Posture : Type 0 where
   accept : Posture
   reject : Action → Posture

@@ -13,13 +13,14 @@ use lib.Seq.{length-take-le}
 use Rattle.text.specs.Text.{Text, part, Wrote}
 use Rattle.text.proofs.Kept.{part-length}
 use Rattle.text.proofs.Writes.{wrote-none, wrote-length, wrote-then}
+use Rattle.er7.specs.declared.message.Label.{Label as HeldLabel}
 use Rattle.er7.specs.declared.message.Place.{Place}
 use Rattle.er7.specs.declared.separators.Separators.{Separators}
-use Rattle.message_model.specs.Message.{Leaf, leaf, Label, touchable, delimiter, lead, printLeaves, printSegments}
-use Rattle.er7_table.specs.Table.{cell, listOf, placeAt, textAt, leafAt, leavesFrom, Good, firstLeaf, nameAt, labelAt, AllNamed, segmentAt, segmentsFrom, Segmented}
-use Rattle.er7_message.specs.declared.message.Counts.{Counts}
+use Rattle.message_model.specs.Message.{Leaf, leaf, Label, isHeaderName, touchable, delimiter, lead, printLeaves, printSegments}
+use Rattle.er7_table.specs.Table.{cell, listOf, placeAt, storedText, leafAt, leavesFrom, Good, firstLeaf, nameAt, labelAt, asLabel, AllNamed, segmentAt, segmentsFrom, Segmented}
+use Rattle.er7_message.specs.declared.message.Layout.{Layout}
 use Rattle.er7_render.specs.Rendered.{rendered}
-use Rattle.er7_render.specs.Inner.{headed, ending, InStore, InTables, texts, leafText, leavesText, segmentText}
+use Rattle.er7_render.specs.Inner.{leadIn, ending, InStore, InTables, texts, leafText, leavesText, segmentText}
 
 -- ---- texts one behind another
 
@@ -79,17 +80,17 @@ part-wrote t i e w = rw (← e) w
 
 module _ (s : Separators) (header : Bool) (p : Place) where
   -- before MSH-1 and MSH-2
-  pub lead-none : header && leb (p .field) 2 ≡ true → (d : Text) (at : ℕ) → at ≤ length d → Wrote d at (lead s (headed header) p) d at
-  unfolding lead touchable headed
+  pub lead-none : header && leb (p .field) 2 ≡ true → (d : Text) (at : ℕ) → at ≤ length d → Wrote d at (leadIn s header p) d at
+  unfolding leadIn
   lead-none e d at h = rw e (wrote-none d at h)
 
-  pub lead-length : header && leb (p .field) 2 ≡ false → length (lead s (headed header) p) ≡ 1
-  unfolding lead touchable headed
+  pub lead-length : header && leb (p .field) 2 ≡ false → length (leadIn s header p) ≡ 1
+  unfolding leadIn
   lead-length e = rw e
 
   -- before any other leaf
-  pub lead-one : header && leb (p .field) 2 ≡ false → {b : ℕ} → b ≡ delimiter s p → {d d′ : Text} {at r : ℕ} → Wrote d at (b ∷ []) d′ r → Wrote d at (lead s (headed header) p) d′ r
-  unfolding lead touchable headed
+  pub lead-one : header && leb (p .field) 2 ≡ false → {b : ℕ} → b ≡ delimiter s p → {d d′ : Text} {at r : ℕ} → Wrote d at (b ∷ []) d′ r → Wrote d at (leadIn s header p) d′ r
+  unfolding leadIn
   lead-one e q w = rw (e, ← q) w
 
 module _ (s : Separators) (header : Bool) (cells : List ℕ) (store : Text) (i : ℕ) where
@@ -98,17 +99,17 @@ module _ (s : Separators) (header : Bool) (cells : List ℕ) (store : Text) (i :
   leaf-gone h d at l = rw (ne-eqb (cell cells i 3) 0 h) (wrote-none d at l)
 
   module _ (live : cell cells i 3 ≡ 0) {p : Place} (q : p ≡ placeAt cells i) where
-    leaf-live : leafText s header cells store i ≡ lead s (headed header) p ++ part store (cell cells i 1) (cell cells i 2)
+    leaf-live : leafText s header cells store i ≡ leadIn s header p ++ part store (cell cells i 1) (cell cells i 2)
     unfolding leafText
     leaf-live = rw (eq-eqb (cell cells i 3) 0 live, q)
 
-    leaf-length : InStore cells store i → length (leafText s header cells store i) ≡ length (lead s (headed header) p) + cell cells i 2
+    leaf-length : InStore cells store i → length (leafText s header cells store i) ≡ length (leadIn s header p) + cell cells i 2
     leaf-length g = rw (leaf-live, length-append, part-length store (cell cells i 1) (cell cells i 2) (g .end))
 
-    pub lead-room : InStore cells store i → (at : ℕ) {n : ℕ} → at + length (leafText s header cells store i) ≤ n → at + length (lead s (headed header) p) ≤ n
+    pub lead-room : InStore cells store i → (at : ℕ) {n : ℕ} → at + length (leafText s header cells store i) ≤ n → at + length (leadIn s header p) ≤ n
     lead-room g at h = omega (arith, leaf-length g)
 
-    module _ {d d₁ : Text} {at k : ℕ} (w : Wrote d at (lead s (headed header) p) d₁ k) where
+    module _ {d d₁ : Text} {at k : ℕ} (w : Wrote d at (leadIn s header p) d₁ k) where
       pub text-room : InStore cells store i → at + length (leafText s header cells store i) ≤ length d
           → k + length (take (cell cells i 1 + cell cells i 2 - cell cells i 1) (drop (cell cells i 1) store)) ≤ length d₁
       unfolding part
@@ -149,36 +150,43 @@ next-first segs k = ap (λ (i : ℕ). getD segs i 0) (omega arith)
 pub segment-leaves : {segs cells : List ℕ} {store : Text} {k : ℕ} → InTables segs cells store k → {end : ℕ} → end ≡ firstLeaf segs (k + 1) → Good cells store end (length store)
 segment-leaves g e = rw e (g .leaves)
 
+pub label-header : (segs : List ℕ) (k : ℕ) (g : HeldLabel) → asLabel g ≡ labelAt segs k → {b : Bool} → b ≡ isHeaderName (g .a ∷ g .b ∷ g .c ∷ []) → b ≡ isHeaderName (nameAt segs k)
+unfolding asLabel labelAt
+label-header segs k g q e = e ∙ ap (λ (g : Label). isHeaderName (g .name)) q
+
 module _ (s : Separators) (cr : Bool) (segs cells : List ℕ) (store : Text) (m k : ℕ) where
   -- the texts of the segment's leaves
-  abbrev inside : ℕ → Text
-  inside end = leavesText s (not (eqb (cell segs k 6) 0)) cells store (firstLeaf segs k) (end - firstLeaf segs k)
+  abbrev inside : Bool → ℕ → Text
+  inside header end = leavesText s header cells store (firstLeaf segs k) (end - firstLeaf segs k)
 
-  segment-length : length (segmentText s cr segs cells store m k) ≡ 3 + (length (inside (firstLeaf segs (k + 1))) + length (ending (not (eqb (k + 1) m) || cr)))
+  abbrev allInside : Text
+  allInside = inside (isHeaderName (nameAt segs k)) (firstLeaf segs (k + 1))
+
+  segment-length : length (segmentText s cr segs cells store m k) ≡ 3 + (length allInside + length (ending (not (eqb (k + 1) m) || cr)))
   unfolding segmentText nameAt
   segment-length =
-      rw (length-append (nameAt segs k) (inside (firstLeaf segs (k + 1)) ++ ending (not (eqb (k + 1) m) || cr)), length-append (inside (firstLeaf segs (k + 1))) (ending (not (eqb (k + 1) m) || cr)))
+      rw (length-append (nameAt segs k) (allInside ++ ending (not (eqb (k + 1) m) || cr)), length-append allInside (ending (not (eqb (k + 1) m) || cr)))
 
   pub name-room : (at : ℕ) {n : ℕ} → at + length (segmentText s cr segs cells store m k) ≤ n → at + 3 ≤ n
   name-room at h = omega (arith, segment-length)
 
-  module _ {d d₁ : Text} {at i : ℕ} (w : Wrote d at (nameAt segs k) d₁ i) {end : ℕ} (q : end ≡ firstLeaf segs (k + 1)) where
+  module _ {d d₁ : Text} {at i : ℕ} (w : Wrote d at (nameAt segs k) d₁ i) {end : ℕ} (q : end ≡ firstLeaf segs (k + 1)) {header : Bool} (z : header ≡ isHeaderName (nameAt segs k)) where
     name-end : i ≡ at + 3
     unfolding nameAt
     name-end = w .end
 
-    pub inside-room : at + length (segmentText s cr segs cells store m k) ≤ length d → i + length (inside end) ≤ length d₁
-    inside-room h = rw q (omega (arith, segment-length, name-end, wrote-length w))
+    pub inside-room : at + length (segmentText s cr segs cells store m k) ≤ length d → i + length (inside header end) ≤ length d₁
+    inside-room h = rw (q, z) (omega (arith, segment-length, name-end, wrote-length w))
 
-    module _ {d₂ : Text} {j : ℕ} (v : Wrote d₁ i (inside end) d₂ j) where
+    module _ {d₂ : Text} {j : ℕ} (v : Wrote d₁ i (inside header end) d₂ j) where
       pub ending-room : at + length (segmentText s cr segs cells store m k) ≤ length d → j + length (ending (not (eqb (k + 1) m) || cr)) ≤ length d₂
       ending-room h =
-          let e : length (inside end) ≡ length (inside (firstLeaf segs (k + 1))) = ap (λ (z : ℕ). length (inside z)) q in
+          let e : length (inside header end) ≡ length allInside = rw (q, z) in
           omega (arith, segment-length, name-end, wrote-length w, v .end, wrote-length v, e)
 
       pub segment-wrote : {d₃ : Text} {r : ℕ} → Wrote d₂ j (ending (not (eqb (k + 1) m) || cr)) d₃ r → Wrote d at (segmentText s cr segs cells store m k) d₃ r
       unfolding segmentText
-      segment-wrote u = rw (← q) (wrote-then w (wrote-then v u))
+      segment-wrote u = rw (← q, ← z) (wrote-then w (wrote-then v u))
 
 -- ---- what the tables print as
 
@@ -186,18 +194,18 @@ three : (a b c d : Text) → a ++ (b ++ (c ++ d)) ≡ (a ++ (b ++ c)) ++ d
 three a b c d = sym (append-assoc a (b ++ c) d ∙ ap (λ (z : Text). a ++ z) (append-assoc b c d))
 
 module _ (s : Separators) (named : ℕ → Bool) (cells : List ℕ) (store : Text) where
-  leaf-prints : (g : Label) (i : ℕ) (xs : List Leaf) → printLeaves s g (leafAt named cells store i ∷ xs) ≡ leafText s (g .header) cells store i ++ printLeaves s g xs
-  unfolding leafAt textAt leafText lead touchable headed printLeaves
+  leaf-prints : (g : Label) (i : ℕ) (xs : List Leaf) → printLeaves s g (leafAt named cells store i ∷ xs) ≡ leafText s (isHeaderName (g .name)) cells store i ++ printLeaves s g xs
+  unfolding leafAt storedText leafText lead touchable leadIn printLeaves
   leaf-prints g i xs = go (eqb (cell cells i 3) 0) (placeAt cells i) (part store (cell cells i 1) (cell cells i 2))
     where
-      go : (b : Bool) (p : Place) (t : Text) → printLeaves s g (leaf p (named i) (cond b (some t) none) ∷ xs) ≡ cond b (lead s (headed (g .header)) p ++ t) [] ++ printLeaves s g xs
+      go : (b : Bool) (p : Place) (t : Text) → printLeaves s g (leaf p (named i) (cond b (some t) none) ∷ xs) ≡ cond b (leadIn s (isHeaderName (g .name)) p ++ t) [] ++ printLeaves s g xs
       go true p t = sym (append-assoc (lead s g p) t (printLeaves s g xs))
       go false p t = refl
 
-  leaves-print : (g : Label) (i n : ℕ) → printLeaves s g (leavesFrom named cells store i n) ≡ leavesText s (g .header) cells store i n
+  leaves-print : (g : Label) (i n : ℕ) → printLeaves s g (leavesFrom named cells store i n) ≡ leavesText s (isHeaderName (g .name)) cells store i n
   unfolding leavesFrom listOf leavesText texts printLeaves
   leaves-print g i zero = refl
-  leaves-print g i (suc n) = leaf-prints g i (leavesFrom named cells store (suc i) n) ∙ ap (λ (z : Text). leafText s (g .header) cells store i ++ z) (leaves-print g (suc i) n)
+  leaves-print g i (suc n) = leaf-prints g i (leavesFrom named cells store (suc i) n) ∙ ap (λ (z : Text). leafText s (isHeaderName (g .name)) cells store i ++ z) (leaves-print g (suc i) n)
 
   module _ (cr : Bool) (segs : List ℕ) (m : ℕ) where
     -- the last segment, and one that another follows
@@ -212,7 +220,7 @@ module _ (s : Separators) (named : ℕ → Bool) (cells : List ℕ) (store : Tex
     unfolding segmentsFrom segmentAt labelAt listOf segmentText ending printSegments
     one-prints k n h =
         rw (leaves-print (labelAt segs k) (firstLeaf segs k) (firstLeaf segs (k + 1) - firstLeaf segs k), ne-eqb (k + 1) m (λ z. absurd (omega arith)))
-        (three (nameAt segs k) (leavesText s (not (eqb (cell segs k 6) 0)) cells store (firstLeaf segs k) (firstLeaf segs (k + 1) - firstLeaf segs k)) (13 ∷ []) _)
+        (three (nameAt segs k) (leavesText s (isHeaderName (nameAt segs k)) cells store (firstLeaf segs k) (firstLeaf segs (k + 1) - firstLeaf segs k)) (13 ∷ []) _)
 
     segments-print : (k n : ℕ) → k + n ≡ m → printSegments s cr (segmentsFrom named segs cells store k n) ≡ texts (segmentText s cr segs cells store m) k n
     unfolding segmentsFrom listOf texts printSegments
@@ -221,17 +229,17 @@ module _ (s : Separators) (named : ℕ → Bool) (cells : List ℕ) (store : Tex
     segments-print k (suc (suc n)) e =
         one-prints k n (omega arith) ∙ ap (λ (z : Text). segmentText s cr segs cells store m k ++ z) (segments-print (suc k) (suc n) (omega arith))
 
-pub rendered-texts : (c : Counts) (named : ℕ → Bool) (segs cells : List ℕ) (store : Text)
+pub rendered-texts : (c : Layout) (named : ℕ → Bool) (segs cells : List ℕ) (store : Text)
     → printSegments (c .separators) (c .«last_cr») (segmentsFrom named segs cells store 0 (c .segments)) ≡ texts (segmentText (c .separators) (c .«last_cr») segs cells store (c .segments)) 0 (c .segments)
 rendered-texts c named segs cells store = segments-print (c .separators) named cells store (c .«last_cr») segs (c .segments) 0 (c .segments) (omega arith)
 
 -- whichever leaves are named, the tables print the same
-pub rendered-named : (c : Counts) (named : ℕ → Bool) (segs cells : List ℕ) (store : Text)
+pub rendered-named : (c : Layout) (named : ℕ → Bool) (segs cells : List ℕ) (store : Text)
     → rendered c segs cells store ≡ printSegments (c .separators) (c .«last_cr») (segmentsFrom named segs cells store 0 (c .segments))
 unfolding rendered
 rendered-named c named segs cells store = rendered-texts c (λ i. false) segs cells store ∙ sym (rendered-texts c named segs cells store)
 
-pub wrote-named : (c : Counts) (named : ℕ → Bool) (segs cells : List ℕ) (store : Text) {d d′ : Text} {r : ℕ} → Wrote d 0 (rendered c segs cells store) d′ r
+pub wrote-named : (c : Layout) (named : ℕ → Bool) (segs cells : List ℕ) (store : Text) {d d′ : Text} {r : ℕ} → Wrote d 0 (rendered c segs cells store) d′ r
     → Wrote d 0 (printSegments (c .separators) (c .«last_cr») (segmentsFrom named segs cells store 0 (c .segments))) d′ r
 wrote-named c named segs cells store w = rw (← rendered-named c named segs cells store) w
 
@@ -247,7 +255,7 @@ in-tables {segs} {cells} {store} {m} {n} g k h =
       leaves = record { rows = omega (arith, g .2 .rows); room = g .2 .room; ends = λ i l. g .2 .ends i (omega arith) };
     }
 
-module _ (c : Counts) (segs cells : List ℕ) (store : Text) where
+module _ (c : Layout) (segs cells : List ℕ) (store : Text) where
   rendered-all : rendered c segs cells store ≡ texts (segmentText (c .separators) (c .«last_cr») segs cells store (c .segments)) 0 (c .segments - 0)
   unfolding rendered
   rendered-all = let z : c .segments - 0 ≡ c .segments = omega arith in rw z (rendered-texts c (λ i. false) segs cells store)

@@ -15,7 +15,7 @@ use Rattle.text.specs.Text.{Text, part, Wrote}
 use Rattle.text.proofs.Kept.{part-length, part-kept, wrote-same, wrote-part}
 use Rattle.text.proofs.Writes.{wrote-length}
 use Rattle.message_model.specs.Message.{segment}
-use Rattle.er7_table.specs.Table.{cell, placeAt, textAt, leafAt, leavesFrom, Good, Placed, firstLeaf, labelAt, segmentAt, segmentsFrom, Segmented}
+use Rattle.er7_table.specs.Table.{cell, placeAt, storedText, leafAt, leavesFrom, Good, Placed, firstLeaf, labelAt, segmentAt, segmentsFrom, Segmented}
 use Rattle.er7_render.specs.Stored.{TextSet, liveLen, liveSum, Packed}
 use Rattle.er7_render.specs.Inner.{InStore, LeafPacked}
 use Rattle.er7_render.proofs.Laws.{part-wrote}
@@ -49,8 +49,8 @@ module _ (cells : List ℕ) (store : Text) (i : ℕ) (g : InStore cells store i)
 
 -- ---- a text in a store that begins alike
 
-text-over : (cells : List ℕ) (store store′ : Text) (e : ℕ) → take e store′ ≡ take e store → (i : ℕ) → cell cells i 1 + cell cells i 2 ≤ e → textAt cells store′ i ≡ textAt cells store i
-unfolding textAt
+text-over : (cells : List ℕ) (store store′ : Text) (e : ℕ) → take e store′ ≡ take e store → (i : ℕ) → cell cells i 1 + cell cells i 2 ≤ e → storedText cells store′ i ≡ storedText cells store i
+unfolding storedText
 text-over cells store store′ e q i h = rw (part-kept store store′ e q (cell cells i 1) (cell cells i 2) h)
 
 part-front : (t : Text) (n : ℕ) → take n t ≡ part t 0 n
@@ -69,7 +69,7 @@ pub record Packing (cells : List ℕ) (store : Text) (n i : ℕ) (cells′ : Lis
   pub left : at + liveSum cells i (n - i) ≡ liveSum cells 0 n
   pub room : liveSum cells 0 n ≤ length spare
   pub ends : (k : ℕ) → k < i → cell cells′ k 1 + cell cells′ k 2 ≤ at
-  pub text : (k : ℕ) → k < i → textAt cells′ spare k ≡ textAt cells store k
+  pub text : (k : ℕ) → k < i → storedText cells′ spare k ≡ storedText cells store k
   pub place : (k : ℕ) → placeAt cells′ k ≡ placeAt cells k
   pub behind : (k j : ℕ) → j < 8 → i ≤ k → cell cells′ k j ≡ cell cells k j
 
@@ -109,8 +109,8 @@ module _ {cells : List ℕ} {store : Text} {n i : ℕ} {cells′ : List ℕ} {sp
       end-is : r ≡ at + liveLen cells i
       end-is = omega (arith, w .wrote .end, text-long, live-same)
 
-      text-here : textAt cells″ spare′ i ≡ textAt cells store i
-      unfolding textAt liveLen
+      text-here : storedText cells″ spare′ i ≡ storedText cells store i
+      unfolding storedText liveLen
       text-here =
           let q : part spare′ at (liveLen cells′ i) ≡ part store (cell cells′ i 1) (liveLen cells′ i) =
           ap (part spare′ at) (sym text-long) ∙ wrote-part (w .wrote) in
@@ -121,10 +121,10 @@ module _ {cells : List ℕ} {store : Text} {n i : ℕ} {cells′ : List ℕ} {sp
           go true = refl
           go false = refl
 
-      text-other : (k : ℕ) → k < i → textAt cells″ spare′ k ≡ textAt cells store k
+      text-other : (k : ℕ) → k < i → storedText cells″ spare′ k ≡ storedText cells store k
       text-other k x = w .set .other-text spare′ k (λ e. absurd (omega arith)) ∙ over ∙ p .text k x
         where
-          over : textAt cells′ spare′ k ≡ textAt cells′ spare k
+          over : storedText cells′ spare′ k ≡ storedText cells′ spare k
           over = text-over cells′ spare spare′ at (wrote-same (w .wrote) .same) k (p .ends k x)
 
       pub pack-next : Packing cells store n (i + 1) cells″ spare′ r
@@ -166,7 +166,7 @@ pack-back {cells} {store} {n} {cells′} {spare} {r} p {old} {store′} {m} w =
     let v : Wrote old 0 (take r spare) store′ m = rw z at w in
     let e : m ≡ r = omega (arith, v .end, l) in
     let q : take r store′ ≡ take r spare = ap (λ (k : ℕ). take k store′) (sym l) ∙ part-front store′ (length (take r spare)) ∙ wrote-part v in
-    let t : (i : ℕ) → i < n → textAt cells′ store′ i ≡ textAt cells store i = λ i h. text-over cells′ spare store′ r q i (p .good .ends i h) ∙ p .text i h in
+    let t : (i : ℕ) → i < n → storedText cells′ store′ i ≡ storedText cells store i = λ i h. text-over cells′ spare store′ r q i (p .good .ends i h) ∙ p .text i h in
     record {
       size = p .size;
       rows = p .rows;

@@ -1,6 +1,6 @@
 -- A message that was read into the tables prints as it came. Assumes nothing.
 use mathlib.Core.Path.{_≡_, refl, sym, ap, _∙_}
-use mathlib.Core.Bool.{Bool, true, false, not, _&&_, _||_}
+use mathlib.Core.Bool.{Bool, true, false, _&&_, _||_}
 use mathlib.Core.List.{List, [], _∷_, _++_}
 use mathlib.Core.Option.{none}
 use Prim.Native.Nat.{ℕ, zero, suc, _+_, _≤_, _<_}
@@ -8,7 +8,7 @@ use native.Mathlib.Omega.{arith}
 use borrow.Author.Tests.{ne-eqb}
 use lib.Dec.{eqb, leb}
 use lib.ListN.{length, take, getD}
-use Rattle.text.specs.Text.{Text, bytes, isDigit, isUpper, all, same, Wrote}
+use Rattle.text.specs.Text.{Text, bytes, isDigit, isUpper, all, Wrote}
 use Rattle.text.proofs.Laws.{split, and-left, and-right, at-most}
 use Rattle.er7.specs.declared.separators.Separators.{Separators}
 use Rattle.message_model.specs.Message.{Message, Segment, segment, isNameByte, isName, isNamed, segments, segmentsFault, messageFault, messageOf, printSegments, printMessage, separatorsOf}
@@ -16,7 +16,7 @@ use Rattle.message_model.proofs.Faultless.{header-line, named-line, faultless-l
 use Rattle.message_model.proofs.PrintBack.{message-prints}
 use Rattle.er7_table.specs.Table.{listOf, nameAt, labelAt, BytesNamed, AllNamed, segmentAt, segmentsFrom}
 use Rattle.er7_table.proofs.Laws.{segments-in-store}
-use Rattle.er7_message.specs.declared.message.Counts.{Counts}
+use Rattle.er7_message.specs.declared.message.Layout.{Layout}
 use Rattle.er7_message.specs.declared.message.ParsedMessage.the-variants.{Read}
 use Rattle.er7_message.specs.Parsed.{faultOf, Standing, ParsedAs}
 use Rattle.er7_render.specs.Rendered.{rendered}
@@ -56,7 +56,7 @@ rows-named segs cells t k (suc n) e i h l =
 -- and in lines without a fault
 is-name : (n : Text) → isName n ≡ true → all isNameByte n ≡ true
 unfolding isName
-is-name n e = and-left (all isNameByte n) _ (and-left (all isNameByte n && not (same n (bytes "MSH"))) _ (and-left (all isNameByte n && not (same n (bytes "MSH")) && not (same n (bytes "FHS"))) _ e))
+is-name n e = and-left (all isNameByte n) _ e
 
 header-name : (n : Text) → n ≡ bytes "MSH" → all isNameByte n ≡ true
 unfolding all isNameByte isUpper isDigit bytes
@@ -81,11 +81,11 @@ message-named t e =
 -- ---- a message that was read
 
 -- tables that stand for a message print it
-pub standing-prints : {t : Text} {m : Message} {segs cells : List ℕ} {c : Counts} → Standing t m segs cells c → rendered c segs cells t ≡ printMessage m
+pub standing-prints : {t : Text} {m : Message} {segs cells : List ℕ} {c : Layout} → Standing t m segs cells c → rendered c segs cells t ≡ printMessage m
 unfolding rendered printMessage
 standing-prints w = rw (w .separators, w .last, w .segments)
 
-module _ {t : Text} {segs cells : List ℕ} {c : Counts} (p : ParsedAs t (messageFault t) (messageOf t) segs cells (Read c)) where
+module _ {t : Text} {segs cells : List ℕ} {c : Layout} (p : ParsedAs t (messageFault t) (messageOf t) segs cells (Read c)) where
   no-fault : messageFault t ≡ none
   unfolding faultOf
   no-fault = sym (p .is)

@@ -10,9 +10,10 @@ use lib.Dec.{eqb}
 use lib.ListN.{length, take, drop}
 use Rattle.text.specs.Text.{Text, part, SameTo}
 use Rattle.text.proofs.Kept.{part-length, same-all}
-use Rattle.er7_table.specs.Table.{cell, textAt, Good}
+use Rattle.er7_table.specs.Table.{cell, storedText, Good}
 use Rattle.er7_render.specs.Stored.{liveLen, liveSum, Packed, RoomMade}
 use Rattle.er7_render.proofs.Sums.{sum-same}
+use Rattle.refusal.specs.Limits.{TEXT_MAX}
 
 -- ---- the length of a leaf's text
 
@@ -22,8 +23,8 @@ textLong none = 0
 textLong (some t) = length t
 
 module _ {cells : List ℕ} {store : Text} {n used : ℕ} (g : Good cells store n used) where
-  pub live-text : (i : ℕ) → i < n → liveLen cells i ≡ textLong (textAt cells store i)
-  unfolding liveLen textAt part
+  pub live-text : (i : ℕ) → i < n → liveLen cells i ≡ textLong (storedText cells store i)
+  unfolding liveLen storedText part
   live-text i h = go (eqb (cell cells i 3) 0)
     where
       go : (b : Bool) → cond b (cell cells i 2) 0 ≡ textLong (cond b (some (part store (cell cells i 1) (cell cells i 2))) none)
@@ -40,7 +41,7 @@ same-part k d e h l = record { long = same-len-mid k (length d - k) d e l; same 
 
 module _ {n : ℕ} {cells : List ℕ} {store : Text} {used : ℕ} (g : Good cells store n used) where
   -- there was room
-  pub room-there : used ≤ 49152 → (bytes : Text) (from : ℕ) → RoomMade n cells store bytes from cells store bytes used
+  pub room-there : used ≤ TEXT_MAX → (bytes : Text) (from : ℕ) → RoomMade n cells store bytes from cells store bytes used
   room-there h bytes from = record {
     good = g;
     ample = h;
@@ -52,7 +53,7 @@ module _ {n : ℕ} {cells : List ℕ} {store : Text} {used : ℕ} (g : Good cell
   }
 
   -- the texts were moved together
-  pub room-packed : {cells′ : List ℕ} {store′ bytes bytes′ : Text} {from r : ℕ} → liveSum cells 0 n ≤ 49152
+  pub room-packed : {cells′ : List ℕ} {store′ bytes bytes′ : Text} {from r : ℕ} → liveSum cells 0 n ≤ TEXT_MAX
       → Packed cells store n cells′ store′ r × SameTo from bytes bytes′ → RoomMade n cells store bytes from cells′ store′ bytes′ r
   room-packed few p = record {
     good = p .0 .good;

@@ -13,7 +13,7 @@ use lib.ListN.{length, take, drop, set, length-set}
 use lib.Seq.{getD-set-same, getD-set-other, take-at, drop-at, length-take-le}
 use Rattle.text.specs.Text.{Text, part, SameTo}
 use Rattle.text.proofs.Kept.{part-same}
-use Rattle.er7_table.specs.Table.{cell, placeAt, textAt, leafAt, Good}
+use Rattle.er7_table.specs.Table.{cell, placeAt, storedText, leafAt, Good}
 use Rattle.er7_table.proofs.Laws.{leaf-kept}
 use Rattle.er7_render.specs.Stored.{TextSet, Vanished}
 
@@ -33,8 +33,8 @@ module _ (cells : List ℕ) (i k v : ℕ) (few : k < 8) where
   unfolding cell
   column-other j l h ne = getD-set-other cells (i * 8 + k) (j * 8 + l) v 0 (λ e. ne (omega arith))
 
-text-kept : (cells cells′ : List ℕ) (store : Text) (i : ℕ) → ((k : ℕ) → k < 8 → cell cells′ i k ≡ cell cells i k) → textAt cells′ store i ≡ textAt cells store i
-unfolding textAt
+text-kept : (cells cells′ : List ℕ) (store : Text) (i : ℕ) → ((k : ℕ) → k < 8 → cell cells′ i k ≡ cell cells i k) → storedText cells′ store i ≡ storedText cells store i
+unfolding storedText
 text-kept cells cells′ store i h = rw (h 1 (omega arith), h 2 (omega arith), h 3 (omega arith))
 
 place-columns : (cells cells′ : List ℕ) (i : ℕ) → ((k : ℕ) → k < 8 → 3 < k → cell cells′ i k ≡ cell cells i k) → placeAt cells′ i ≡ placeAt cells i
@@ -63,8 +63,8 @@ module _ (cells : List ℕ) (i start n : ℕ) (room : i * 8 + 8 ≤ length cells
   set-long : cell twice i 2 ≡ n
   set-long = column-here once i 2 n (omega arith) (rw (length-set cells (i * 8 + 1) start) room)
 
-  set-here : (store : Text) → cell cells i 3 ≡ 0 → textAt twice store i ≡ some (part store start n)
-  unfolding textAt
+  set-here : (store : Text) → cell cells i 3 ≡ 0 → storedText twice store i ≡ some (part store start n)
+  unfolding storedText
   set-here store e = rw (set-begins, set-long, column-kept i 3 (omega arith) (omega arith), e)
 
   pub text-set : TextSet cells i start n (set (set cells (i * 8 + 1) start) (i * 8 + 2) n)
@@ -83,8 +83,8 @@ module _ (cells : List ℕ) (i start n : ℕ) (room : i * 8 + 8 ≤ length cells
 -- ---- `set_gone`
 
 module _ (cells : List ℕ) (i : ℕ) (room : i * 8 + 8 ≤ length cells) where
-  gone-here : (store : Text) → textAt (set cells (i * 8 + 3) 1) store i ≡ none
-  unfolding textAt
+  gone-here : (store : Text) → storedText (set cells (i * 8 + 3) 1) store i ≡ none
+  unfolding storedText
   gone-here store = rw (column-here cells i 3 1 (omega arith) room)
 
   pub vanished : Vanished cells i (set cells (i * 8 + 3) 1)
@@ -106,8 +106,8 @@ module _ (cells : List ℕ) (i : ℕ) (room : i * 8 + 8 ≤ length cells) where
 -- ---- the texts that end in the store
 
 -- a leaf that has a text has not vanished
-pub live : (cells : List ℕ) (store : Text) (i : ℕ) {t : Text} → textAt cells store i ≡ some t → cell cells i 3 ≡ 0
-unfolding textAt
+pub live : (cells : List ℕ) (store : Text) (i : ℕ) {t : Text} → storedText cells store i ≡ some t → cell cells i 3 ≡ 0
+unfolding storedText
 live cells store i {t} e = go (eqb (cell cells i 3) 0) refl e
   where
     go : (b : Bool) → eqb (cell cells i 3) 0 ≡ b → cond b (some (part store (cell cells i 1) (cell cells i 2))) none ≡ some t → cell cells i 3 ≡ 0
@@ -132,8 +132,8 @@ module _ {cells : List ℕ} {store : Text} {n used : ℕ} (g : Good cells store 
 -- ---- where what stands behind the texts changed
 
 module _ {cells : List ℕ} {store store′ : Text} {n used : ℕ} (g : Good cells store n used) (k : SameTo used store store′) where
-  pub kept-text : (j : ℕ) → j < n → textAt cells store′ j ≡ textAt cells store j
-  unfolding textAt
+  pub kept-text : (j : ℕ) → j < n → storedText cells store′ j ≡ storedText cells store j
+  unfolding storedText
   kept-text j h = rw (part-same k (cell cells j 1) (cell cells j 2) (g .ends j h))
 
   pub kept-good : Good cells store′ n used

@@ -1,18 +1,19 @@
 -- What the contracts of private functions cite; no public contract rests on it. Assumes nothing: these are definitions.
-use mathlib.Core.Bool.{Bool, cond, not, _||_}
+use mathlib.Core.Bool.{Bool, cond, not, _&&_, _||_}
 use mathlib.Core.List.{List, [], _∷_, _++_}
 use Prim.Native.Nat.{ℕ, zero, suc, _+_, _-_, _*_, _≤_}
-use lib.Dec.{eqb}
+use lib.Dec.{eqb, leb}
 use lib.ListN.{length}
 use Rattle.text.specs.Text.{Text, part, Wrote}
+use Rattle.er7.specs.declared.message.Place.{Place}
 use Rattle.er7.specs.declared.separators.Separators.{Separators}
-use Rattle.message_model.specs.Message.{Label, lead}
+use Rattle.message_model.specs.Message.{isHeaderName, delimiter}
 use Rattle.er7_table.specs.Table.{cell, placeAt, Good, firstLeaf, nameAt, BytesNamed}
 use Rattle.er7_render.specs.Stored.{TextSet, liveLen}
 
--- a label with this header flag; what stands before a leaf depends on nothing else of its segment's label
-unfoldable pub headed : Bool → Label
-headed header = record { name = []; occurrence = 0; header = header }
+-- what stands before a leaf of a header, or of another segment
+unfoldable pub leadIn : Separators → Bool → Place → Text
+leadIn s header p = cond (not (header && leb (p .field) 2)) (delimiter s p ∷ []) []
 
 -- a CR, if one is wanted
 unfoldable pub ending : Bool → Text
@@ -38,7 +39,7 @@ texts f i (suc n) = f i ++ texts f (suc i) n
 -- what leaf i prints as
 unfoldable pub leafText : Separators → Bool → List ℕ → Text → ℕ → Text
 leafText s header cells store i =
-    cond (eqb (cell cells i 3) 0) (lead s (headed header) (placeAt cells i) ++ part store (cell cells i 1) (cell cells i 2)) []
+    cond (eqb (cell cells i 3) 0) (leadIn s header (placeAt cells i) ++ part store (cell cells i 1) (cell cells i 2)) []
 
 -- what n leaves from leaf i on print as
 unfoldable pub leavesText : Separators → Bool → List ℕ → Text → ℕ → ℕ → Text
@@ -48,7 +49,7 @@ leavesText s header cells store i n = texts (leafText s header cells store) i n
 unfoldable pub segmentText : Separators → Bool → List ℕ → List ℕ → Text → ℕ → ℕ → Text
 segmentText s cr segs cells store m k =
     nameAt segs k
-    ++ (leavesText s (not (eqb (cell segs k 6) 0)) cells store (firstLeaf segs k) (firstLeaf segs (k + 1) - firstLeaf segs k)
+    ++ (leavesText s (isHeaderName (nameAt segs k)) cells store (firstLeaf segs k) (firstLeaf segs (k + 1) - firstLeaf segs k)
     ++ ending (not (eqb (k + 1) m) || cr))
 
 -- ---- compaction

@@ -1,7 +1,9 @@
 // Printing a message: each leaf behind its delimiter, each segment behind its name.
 use er7::message::Place;
 use er7::separators::Separators;
-use er7_message::message::Counts;
+use er7_message::message::Layout;
+use er7_table::table::is_header_name;
+use er7_table::table::label_at;
 use er7_table::table::place_at;
 use text::bytes::byte_at;
 use text::bytes::copy_at;
@@ -9,10 +11,10 @@ ghost use mathlib.Core.Path.{_≡_};
 ghost use Prim.Native.Nat.{_+_, _-_, _*_, _≤_};
 ghost use lib.ListN.{length};
 ghost use Rattle.text.specs.Text.{Wrote};
-ghost use Rattle.message_model.specs.Message.{delimiter, lead};
+ghost use Rattle.message_model.specs.Message.{delimiter};
 ghost use Rattle.er7_table.specs.Table.{nameAt, BytesNamed, AllNamed, Good, Segmented};
 ghost use Rattle.er7_render.specs.Rendered.{rendered};
-ghost use Rattle.er7_render.specs.Inner.{headed, ending, InStore, InTables, leafText, leavesText, segmentText};
+ghost use Rattle.er7_render.specs.Inner.{leadIn, ending, InStore, InTables, leafText, leavesText, segmentText};
 
 // The delimiter before a leaf at p.
 pub fn delimiter_before(s: Separators, p: Place) -> u8
@@ -32,8 +34,8 @@ pub fn delimiter_before(s: Separators, p: Place) -> u8
 
 // Writes what stands before a leaf at p to out from index at on: its delimiter, and nothing before MSH-1 and MSH-2. Returns the index behind it.
 fn put_lead(s: Separators, header: bool, p: Place, out: &mut [u8], at: usize) -> usize
-    requires { ⌜ at + length (lead s (headed header) p) ≤ length (now out) ⌝ }
-    ensures { λ r. ⌜ Wrote (now (out .entry)) at (lead s (headed header) p) (now (out .exit)) r ⌝ }
+    requires { ⌜ at + length (leadIn s header p) ≤ length (now out) ⌝ }
+    ensures { λ r. ⌜ Wrote (now (out .entry)) at (leadIn s header p) (now (out .exit)) r ⌝ }
 {
     if header & (p.field <= 2) {
         return at;
@@ -115,7 +117,7 @@ fn put_cr(wanted: bool, out: &mut [u8], at: usize) -> usize
 
 // Writes segment k to out from index at on, and returns the index behind it; a CR ends it, the last one only if the message ended so.
 fn print_segment(
-    counts: Counts,
+    layout: Layout,
     k: usize,
     segs: &[usize; 2056],
     cells: &[usize],
@@ -123,16 +125,17 @@ fn print_segment(
     out: &mut [u8],
     at: usize,
 ) -> usize
-    requires { ⌜ InTables (now segs) (now cells) (now store) k × (at + length (segmentText (counts .separators) (counts .«last_cr») (now segs) (now cells) (now store) (counts .segments) k) ≤ length (now out)) ⌝ }
-    ensures { λ r. ⌜ Wrote (now (out .entry)) at (segmentText (counts .separators) (counts .«last_cr») (now (segs .entry)) (now (cells .entry)) (now (store .entry)) (counts .segments) k) (now (out .exit)) r ⌝ }
+    requires { ⌜ InTables (now segs) (now cells) (now store) k × (at + length (segmentText (layout .separators) (layout .«last_cr») (now segs) (now cells) (now store) (layout .segments) k) ≤ length (now out)) ⌝ }
+    ensures { λ r. ⌜ Wrote (now (out .entry)) at (segmentText (layout .separators) (layout .«last_cr») (now (segs .entry)) (now (cells .entry)) (now (store .entry)) (layout .segments) k) (now (out .exit)) r ⌝ }
 {
     let row = k * 8;
     let first = segs[row + 1];
-    let header = segs[row + 6] != 0;
     let end = segs[row + 9];
+    let label = label_at(segs, k);
+    let header = is_header_name(label.a, label.b, label.c);
     let named = put_name(segs, k, out, at);
     let printed = put_leaves(
-        counts.separators,
+        layout.separators,
         header,
         cells,
         first,
@@ -141,7 +144,7 @@ fn print_segment(
         out,
         named,
     );
-    put_cr((k + 1 != counts.segments) | counts.last_cr, out, printed)
+    put_cr((k + 1 != layout.segments) | layout.last_cr, out, printed)
 }
 
 // Writes the message in the tables to the front of out, and returns its length.
@@ -149,17 +152,17 @@ pub fn render(
     segs: &[usize; 2056],
     cells: &[usize],
     store: &[u8],
-    counts: Counts,
+    layout: Layout,
     out: &mut [u8],
 ) -> usize
-    requires { ⌜ Segmented (now segs) (counts .segments) (counts .leaves) × AllNamed (now segs) (counts .segments) × Good (now cells) (now store) (counts .leaves) (length (now store)) ⌝ }
-    requires { ⌜ length (rendered counts (now segs) (now cells) (now store)) ≤ length (now out) ⌝ }
-    ensures { λ r. ⌜ Wrote (now (out .entry)) 0 (rendered counts (now (segs .entry)) (now (cells .entry)) (now (store .entry))) (now (out .exit)) r ⌝ }
+    requires { ⌜ Segmented (now segs) (layout .segments) (layout .leaves) × AllNamed (now segs) (layout .segments) × Good (now cells) (now store) (layout .leaves) (length (now store)) ⌝ }
+    requires { ⌜ length (rendered layout (now segs) (now cells) (now store)) ≤ length (now out) ⌝ }
+    ensures { λ r. ⌜ Wrote (now (out .entry)) 0 (rendered layout (now (segs .entry)) (now (cells .entry)) (now (store .entry))) (now (out .exit)) r ⌝ }
 {
     let mut at = 0;
     let mut k = 0;
-    while k < counts.segments {
-        at = print_segment(counts, k, segs, cells, store, out, at);
+    while k < layout.segments {
+        at = print_segment(layout, k, segs, cells, store, out, at);
         k += 1;
     }
     at

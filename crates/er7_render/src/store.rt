@@ -1,5 +1,6 @@
 // The store of the leaves' texts. It only grows: a new text is written behind the last one, and the leaf's row then says where it stands.
 // A compaction leaves the texts of the leaves that have not vanished, and no more.
+use refusal::limits::TEXT_MAX;
 use text::bytes::copy_at;
 ghost use mathlib.Core.Path.{_≡_};
 ghost use mathlib.Core.Bool.{cond};
@@ -10,6 +11,7 @@ ghost use Rattle.text.specs.Text.{SameTo};
 ghost use Rattle.er7_table.specs.Table.{Good};
 ghost use Rattle.er7_render.specs.Stored.{TextSet, Vanished, liveLen, liveSum, Packed, RoomMade};
 ghost use Rattle.er7_render.specs.Inner.{InStore, LeafPacked};
+ghost use Rattle.refusal.specs.Limits.{LEARNT_BYTES_MAX, TEXT_MAX};
 
 // Makes the text of leaf i the len bytes of the store from index start on.
 pub fn set_text(cells: &mut [usize], i: usize, start: usize, len: usize)
@@ -107,10 +109,10 @@ pub fn make_room(
     from: usize,
     used: usize,
 ) -> usize
-    requires { ⌜ Good (now cells) (now store) n used × (liveSum (now cells) 0 n ≤ 49152) × (from ≤ 16384) ⌝ }
+    requires { ⌜ Good (now cells) (now store) n used × (liveSum (now cells) 0 n ≤ TEXT_MAX) × (from ≤ LEARNT_BYTES_MAX) ⌝ }
     ensures { λ r. ⌜ RoomMade n (now (cells .entry)) (now (store .entry)) (now (bytes .entry)) from (now (cells .exit)) (now (store .exit)) (now (bytes .exit)) r ⌝ }
 {
-    if used <= 49152 {
+    if used <= TEXT_MAX {
         return used;
     }
     compact_behind(n, cells, store, bytes, from, used)

@@ -10,7 +10,7 @@ use lib.Seq.{take-all, take-take, take-nil}
 use Rattle.text.specs.Text.{Text, part}
 use Rattle.text.proofs.Kept.{part-kept}
 use Rattle.message_model.specs.Message.{segment}
-use Rattle.er7_table.specs.Table.{cell, listOf, placeAt, textAt, leafAt, leavesFrom, Good, firstLeaf, nameAt, labelAt, segmentAt, segmentsFrom, Segmented}
+use Rattle.er7_table.specs.Table.{cell, listOf, placeAt, storedText, leafAt, leavesFrom, Good, firstLeaf, nameAt, labelAt, segmentAt, segmentsFrom, Segmented}
 
 -- ---- lists read off a function
 
@@ -51,7 +51,7 @@ place-kept cells cells′ i h = rw (h 4 (omega arith), h 5 (omega arith), h 6 (o
 
 pub leaf-kept : (named : ℕ → Bool) (cells cells′ : List ℕ) (store : Text) (i : ℕ) → ((k : ℕ) → k < 8 → cell cells′ i k ≡ cell cells i k)
     → leafAt named cells′ store i ≡ leafAt named cells store i
-unfolding leafAt textAt
+unfolding leafAt storedText
 leaf-kept named cells cells′ store i h = rw (place-kept cells cells′ i h, h 1 (omega arith), h 2 (omega arith), h 3 (omega arith))
 
 pub leaves-kept : (named : ℕ → Bool) (cells cells′ : List ℕ) (store : Text) (i n : ℕ) → ((j k : ℕ) → k < 8 → j < i + n → cell cells′ j k ≡ cell cells j k)
@@ -66,7 +66,7 @@ name-kept segs segs′ k h = rw (h 2 (omega arith), h 3 (omega arith), h 4 (omeg
 
 pub label-kept : (segs segs′ : List ℕ) (k : ℕ) → ((j : ℕ) → j < 8 → cell segs′ k j ≡ cell segs k j) → labelAt segs′ k ≡ labelAt segs k
 unfolding labelAt
-label-kept segs segs′ k h = rw (name-kept segs segs′ k h, h 5 (omega arith), h 6 (omega arith))
+label-kept segs segs′ k h = rw (name-kept segs segs′ k h, h 5 (omega arith))
 
 pub first-kept : (segs segs′ : List ℕ) (k : ℕ) → ((j : ℕ) → j < 8 → cell segs′ k j ≡ cell segs k j) → firstLeaf segs′ k ≡ firstLeaf segs k
 unfolding firstLeaf
@@ -91,7 +91,7 @@ segments-named named named′ segs cells store m n w h =
 
 module _ (named : ℕ → Bool) (cells : List ℕ) (store store′ : Text) {n used : ℕ} (g : Good cells store n used) (q : take used store′ ≡ take used store) where
   pub leaf-over : (i : ℕ) → i < n → leafAt named cells store′ i ≡ leafAt named cells store i
-  unfolding leafAt textAt
+  unfolding leafAt storedText
   leaf-over i h = rw (part-kept store store′ used q (cell cells i 1) (cell cells i 2) (g .ends i h))
 
   pub leaves-over : (i m : ℕ) → i + m ≤ n → leavesFrom named cells store′ i m ≡ leavesFrom named cells store i m

@@ -18,9 +18,10 @@ use Rattle.text.proofs.Runs.{drop-step, part-more}
 use Rattle.er7.specs.declared.message.Place.{Place}
 use Rattle.er7.specs.declared.separators.Separators.{Separators}
 use Rattle.message_model.specs.Message.{Leaf, leaf, endsLeaf, next, leaves}
-use Rattle.er7_table.specs.Table.{cell, listOf, placeAt, textAt, leafAt, leavesFrom, Within}
+use Rattle.er7_table.specs.Table.{cell, listOf, placeAt, storedText, leafAt, leavesFrom, Within}
 use Rattle.er7_table.specs.Filling.{LeafEnd, LeafPut, LeavesRead}
 use Rattle.er7_table.proofs.Laws.{list-snoc, list-ext, list-length, leaves-kept, place-kept}
+use Rattle.refusal.specs.Limits.{LEAVES_MAX}
 
 -- ---- `next`, case by case
 module _ (s : Separators) (x : ℕ) (p : Place) where
@@ -145,7 +146,7 @@ running-end g h = record { low = g .low; high = g .high; runs = g .runs; stops =
 -- ---- the leaves from index `from` on, of which the rows n₀ to before n are read; the next one begins at index i and stands at p
 pub record Going (s : Separators) (t : Text) (from : ℕ) (p₀ : Place) (n₀ : ℕ) (cells₀ : List ℕ) (i n : ℕ) (p : Place) (cells : List ℕ) : Type 0 where
   pub low : n₀ ≤ n
-  pub high : n ≤ 4096
+  pub high : n ≤ LEAVES_MAX
   pub inside : i ≤ length t
   pub ahead : n < i
   pub small : Within p i
@@ -156,7 +157,7 @@ pub record Going (s : Separators) (t : Text) (from : ℕ) (p₀ : Place) (n₀ :
   pub long : length cells ≡ length cells₀
 
 module _ (s : Separators) (t : Text) (from : ℕ) (p₀ : Place) (n₀ : ℕ) (cells₀ : List ℕ) where
-  pub going-start : from ≤ length t → n₀ ≤ 4096 → n₀ < from → Within p₀ from → Going s t from p₀ n₀ cells₀ from n₀ p₀ cells₀
+  pub going-start : from ≤ length t → n₀ ≤ LEAVES_MAX → n₀ < from → Within p₀ from → Going s t from p₀ n₀ cells₀ from n₀ p₀ cells₀
   unfolding leavesFrom listOf
   going-start h k a u =
       let z : n₀ - n₀ ≡ 0 = omega arith in record {
@@ -173,7 +174,7 @@ module _ (s : Separators) (t : Text) (from : ℕ) (p₀ : Place) (n₀ : ℕ) (c
       }
 
 module _ {s : Separators} {t : Text} {from : ℕ} {p₀ : Place} {n₀ : ℕ} {cells₀ : List ℕ} {i n : ℕ} {p : Place} {cells : List ℕ} (go : Going s t from p₀ n₀ cells₀ i n p cells) where
-  pub going-full : n ≡ 4096 → LeavesRead (leaves s p₀ [] (drop from t)) t (length t) n₀ cells₀ cells 4097
+  pub going-full : n ≡ LEAVES_MAX → LeavesRead (leaves s p₀ [] (drop from t)) t (length t) n₀ cells₀ cells 4097
   unfolding leavesFrom
   going-full e = record {
     fitted = λ h. absurd (omega (arith, h));
@@ -212,7 +213,7 @@ module _ {s : Separators} {t : Text} {from : ℕ} {p₀ : Place} {n₀ : ℕ} {c
     before-more : (j k : ℕ) → k < 8 → j < n₀ → cell cells′ j k ≡ cell cells₀ j k
     before-more j k h c = kept j k h (omega (arith, go .low)) ∙ go .before j k h c
 
-    pub going-last : n < 4096 → e ≡ length t → LeavesRead (leaves s p₀ [] (drop from t)) t (length t) n₀ cells₀ cells′ (n + 1)
+    pub going-last : n < LEAVES_MAX → e ≡ length t → LeavesRead (leaves s p₀ [] (drop from t)) t (length t) n₀ cells₀ cells′ (n + 1)
     unfolding leavesFrom
     going-last m q =
         let all : leaves s p₀ [] (drop from t) ≡ leavesFrom (λ i. false) cells′ t n₀ (n + 1 - n₀) =
@@ -230,7 +231,7 @@ module _ {s : Separators} {t : Text} {from : ℕ} {p₀ : Place} {n₀ : ℕ} {c
           before = before-more;
         }
 
-    pub going-next : n < 4096 → e < length t → {p′ : Place} → p′ ≡ next s (getD t e 0) p → length cells′ ≡ length cells → Going s t from p₀ n₀ cells₀ (e + 1) (n + 1) p′ cells′
+    pub going-next : n < LEAVES_MAX → e < length t → {p′ : Place} → p′ ≡ next s (getD t e 0) p → length cells′ ≡ length cells → Going s t from p₀ n₀ cells₀ (e + 1) (n + 1) p′ cells′
     going-next m q {p′} np l = record {
       low = omega (arith, go .low);
       high = omega arith;
@@ -247,7 +248,7 @@ module _ {s : Separators} {t : Text} {from : ℕ} {p₀ : Place} {n₀ : ℕ} {c
 
 -- what was read from the front of a text stands in the text
 pub read-front : {xs : List Leaf} {t : Text} {e n : ℕ} {cells cells′ : List ℕ} {r : ℕ} → e ≤ length t → LeavesRead xs (take e t) (length (take e t)) n cells cells′ r → LeavesRead xs t e n cells cells′ r
-unfolding leavesFrom leafAt textAt
+unfolding leavesFrom leafAt storedText
 read-front {xs} {t} {e} {n} {cells} {cells′} {r} l g =
     let len : length (take e t) ≡ e = length-take-le e t l in
     record {

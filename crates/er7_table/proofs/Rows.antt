@@ -8,7 +8,7 @@ use lib.ListN.{length, getD, set, length-set}
 use lib.Seq.{getD-set-same, getD-set-other}
 use Rattle.text.proofs.Laws.{split}
 use Rattle.er7.specs.declared.message.Place.{Place}
-use Rattle.er7_table.specs.Table.{cell, placeAt, textAt, leafAt, firstLeaf, nameAt, labelAt}
+use Rattle.er7_table.specs.Table.{cell, placeAt, storedText, leafAt, firstLeaf, nameAt, labelAt}
 use Rattle.er7_table.specs.Filling.{LeafPut, SegmentPut}
 
 -- ---- several stores in a row
@@ -58,7 +58,7 @@ module _ (cells : List ℕ) (i : ℕ) (p : Place) (start n : ℕ) (room : i * 8 
   column j k e h = row-here cells i columns (omega arith) j k e h room
 
   pub leaf-put : LeafPut cells i p start n (stores cells (i * 8) 1 columns)
-  unfolding leafAt placeAt textAt
+  unfolding leafAt placeAt storedText
   leaf-put =
       let e1 = column 0 1 refl (omega arith) in
       let e2 = column 1 2 refl (omega arith) in
@@ -77,11 +77,11 @@ module _ (cells : List ℕ) (i : ℕ) (p : Place) (start n : ℕ) (room : i * 8 
 
 -- ---- a segment
 
-module _ (segs : List ℕ) (k first a b c occurrence header end : ℕ) (room : k * 8 + 16 ≤ length segs) where
+module _ (segs : List ℕ) (k first a b c occurrence end : ℕ) (room : k * 8 + 16 ≤ length segs) where
   abbrev labels : List ℕ
-  labels = first ∷ a ∷ b ∷ c ∷ occurrence ∷ header ∷ []
+  labels = first ∷ a ∷ b ∷ c ∷ occurrence ∷ []
 
-  label-column : (j m : ℕ) → m ≡ 1 + j → j < 6 → cell (set (stores segs (k * 8) 1 labels) (k * 8 + 9) end) k m ≡ getD labels j 0
+  label-column : (j m : ℕ) → m ≡ 1 + j → j < 5 → cell (set (stores segs (k * 8) 1 labels) (k * 8 + 9) end) k m ≡ getD labels j 0
   unfolding cell
   label-column j m e h =
       getD-set-other (stores segs (k * 8) 1 labels) (k * 8 + 9) (k * 8 + m) end 0 (λ z. absurd (omega arith))
@@ -99,7 +99,7 @@ module _ (segs : List ℕ) (k first a b c occurrence header end : ℕ) (room : k
       let z : (k + 1) * 8 + 1 ≡ k * 8 + 9 = omega arith in
       rw z (getD-set-same (stores segs (k * 8) 1 labels) (k * 8 + 9) end 0 (rw (stores-length labels segs (k * 8) 1) (omega arith)))
 
-  pub segment-put : SegmentPut segs k first a b c occurrence header end (set (stores segs (k * 8) 1 labels) (k * 8 + 9) end)
+  pub segment-put : SegmentPut segs k first a b c occurrence end (set (stores segs (k * 8) 1 labels) (k * 8 + 9) end)
   unfolding labelAt nameAt firstLeaf
   segment-put =
       let e1 = label-column 0 1 refl (omega arith) in
@@ -107,9 +107,8 @@ module _ (segs : List ℕ) (k first a b c occurrence header end : ℕ) (room : k
       let e3 = label-column 2 3 refl (omega arith) in
       let e4 = label-column 3 4 refl (omega arith) in
       let e5 = label-column 4 5 refl (omega arith) in
-      let e6 = label-column 5 6 refl (omega arith) in
       record {
-        label = rw (e2, e3, e4, e5, e6);
+        label = rw (e2, e3, e4, e5);
         begins = e1;
         ends = behind-row;
         other = before-row;

@@ -1,6 +1,6 @@
 -- The two tables that hold a message, and what they stand for. Each is one flat list with eight columns to a row; column 0 is not used. Assumes nothing: these are definitions.
 use mathlib.Core.Path.{_≡_}
-use mathlib.Core.Bool.{Bool, cond, not}
+use mathlib.Core.Bool.{Bool, cond}
 use mathlib.Core.List.{List, [], _∷_}
 use mathlib.Core.Option.{Option, none, some}
 use Prim.Native.Nat.{ℕ, zero, suc, _+_, _-_, _*_, _≤_, _<_}
@@ -25,12 +25,12 @@ listOf f i (suc n) = f i ∷ listOf f (suc i) n
 unfoldable pub placeAt : List ℕ → ℕ → Place
 placeAt cells i = record { field = cell cells i 4; repetition = cell cells i 5; component = cell cells i 6; subcomponent = cell cells i 7 }
 
-unfoldable pub textAt : List ℕ → Text → ℕ → Option Text
-textAt cells store i = cond (eqb (cell cells i 3) 0) (some (part store (cell cells i 1) (cell cells i 2))) none
+unfoldable pub storedText : List ℕ → Text → ℕ → Option Text
+storedText cells store i = cond (eqb (cell cells i 3) 0) (some (part store (cell cells i 1) (cell cells i 2))) none
 
 -- leaf i; `named` says which leaves a rule named
 unfoldable pub leafAt : (ℕ → Bool) → List ℕ → Text → ℕ → Leaf
-leafAt named cells store i = leaf (placeAt cells i) (named i) (textAt cells store i)
+leafAt named cells store i = leaf (placeAt cells i) (named i) (storedText cells store i)
 
 -- n leaves from leaf i on
 unfoldable pub leavesFrom : (ℕ → Bool) → List ℕ → Text → ℕ → ℕ → List Leaf
@@ -56,7 +56,7 @@ pub record Within (p : Place) (m : ℕ) : Type 0 where
 pub record Placed (cells : List ℕ) (n m : ℕ) : Type 0 where
   pub within : (i : ℕ) → i < n → Within (placeAt cells i) m
 
--- ---- the table of segments: the first leaf, the three bytes of the name, the occurrence, and 1 for the header.
+-- ---- the table of segments: the first leaf, the three bytes of the name, and the occurrence.
 -- A row behind the last holds the number of leaves as its first leaf, so that a segment ends where the next row begins
 
 unfoldable pub firstLeaf : List ℕ → ℕ → ℕ
@@ -66,11 +66,11 @@ unfoldable pub nameAt : List ℕ → ℕ → Text
 nameAt segs k = cell segs k 2 ∷ cell segs k 3 ∷ cell segs k 4 ∷ []
 
 unfoldable pub labelAt : List ℕ → ℕ → Label
-labelAt segs k = record { name = nameAt segs k; occurrence = cell segs k 5; header = not (eqb (cell segs k 6) 0) }
+labelAt segs k = record { name = nameAt segs k; occurrence = cell segs k 5 }
 
 -- the label that a struct stands for: its name is three bytes
 unfoldable pub asLabel : HeldLabel → Label
-asLabel g = record { name = g .a ∷ g .b ∷ g .c ∷ []; occurrence = g .occurrence; header = g .header }
+asLabel g = record { name = g .a ∷ g .b ∷ g .c ∷ []; occurrence = g .occurrence }
 
 -- the name of segment k is three bytes
 pub record BytesNamed (segs : List ℕ) (k : ℕ) : Type 0 where

@@ -1,22 +1,34 @@
 // The table of leaves, a slice of rows of eight cells, and the table of segments, an array of 257 such rows. Column 0 of a row is not used.
 // A leaf: the start and the length of its text in the store, 1 if it has vanished, and the four numbers of its place.
-// A segment: its first leaf, the three bytes of its name, its occurrence, and 1 for the header. The row behind the last holds the number of leaves in the place of a first leaf.
+// A segment: its first leaf, the three bytes of its name, and its occurrence. The row behind the last holds the number of leaves in the place of a first leaf.
 use er7::message::Label;
 use er7::message::Place;
 use er7::separators::Separators;
+use refusal::limits::LEAVES_MAX;
 ghost use mathlib.Core.Path.{_≡_};
-ghost use mathlib.Core.List.{[]};
+ghost use mathlib.Core.List.{[], _∷_};
 ghost use Prim.Native.Nat.{_+_, _-_, _*_, _^_, _≤_, _<_};
 ghost use lib.ListN.{length, drop};
 ghost use Rattle.message_model.specs.Message as Message;
 ghost use Rattle.er7_table.specs.Table.{placeAt, Within, labelAt, asLabel, BytesNamed};
 ghost use Rattle.er7_table.specs.Filling.{LeafEnd, LeafPut, SegmentPut, LeafRoom, LeavesRead};
+ghost use Rattle.refusal.specs.Limits.{LEAVES_MAX};
 
 // Whether b ends a leaf.
 pub fn ends_leaf(s: Separators, b: u8) -> bool
     ensures { λ r. ⌜ r ≡ Message.endsLeaf s b ⌝ }
 {
     (b == s.field) | (b == s.repetition) | (b == s.component) | (b == s.subcomponent)
+}
+
+// Whether three bytes are the name of a header.
+pub fn is_header_name(a: u8, b: u8, c: u8) -> bool
+    ensures { λ r. ⌜ r ≡ Message.isHeaderName (a ∷ b ∷ c ∷ []) ⌝ }
+{
+    let msh = (a == b'M') & ((b == b'S') & (c == b'H'));
+    let fhs = (a == b'F') & ((b == b'H') & (c == b'S'));
+    let bhs = (a == b'B') & ((b == b'H') & (c == b'S'));
+    msh | fhs | bhs
 }
 
 // The place with these numbers.
@@ -80,7 +92,6 @@ pub fn label_at(segs: &[usize; 2056], k: usize) -> Label
         b: segs[at + 3] as u8,
         c: segs[at + 4] as u8,
         occurrence: segs[at + 5],
-        header: segs[at + 6] != 0,
     }
 }
 
@@ -123,11 +134,10 @@ pub fn put_segment(
     b: usize,
     c: usize,
     occurrence: usize,
-    header: usize,
     end: usize,
 )
     requires { ⌜ k * 8 + 16 ≤ length (now segs) ⌝ }
-    ensures { λ _. ⌜ SegmentPut (now (segs .entry)) k first a b c occurrence header end (now (segs .exit)) ⌝ }
+    ensures { λ _. ⌜ SegmentPut (now (segs .entry)) k first a b c occurrence end (now (segs .exit)) ⌝ }
 {
     let at = k * 8;
     segs[at + 1] = first;
@@ -135,7 +145,6 @@ pub fn put_segment(
     segs[at + 3] = b;
     segs[at + 4] = c;
     segs[at + 5] = occurrence;
-    segs[at + 6] = header;
     segs[at + 9] = end;
 }
 
@@ -149,14 +158,14 @@ pub fn read_leaves(
     n0: usize,
     cells: &mut [usize],
 ) -> usize
-    requires { ⌜ (from ≤ length (now text)) × (n0 ≤ 4096) × (n0 < from) × LeafRoom (now cells) (length (now text)) × Within place from ⌝ }
+    requires { ⌜ (from ≤ length (now text)) × (n0 ≤ LEAVES_MAX) × (n0 < from) × LeafRoom (now cells) (length (now text)) × Within place from ⌝ }
     ensures { λ r. ⌜ LeavesRead (Message.leaves s place [] (drop from (now (text .entry)))) (now (text .entry)) (length (now (text .entry))) n0 (now (cells .entry)) (now (cells .exit)) r ⌝ }
 {
     let mut i = from;
     let mut n = n0;
     let mut p = place;
     loop {
-        if n == 4096 {
+        if n == LEAVES_MAX {
             return 4097;
         }
         let e = leaf_end(text, i, s);

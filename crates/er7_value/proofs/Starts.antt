@@ -1,20 +1,20 @@
 -- Laws of the bytes at which a word can start. Assumes nothing.
 use mathlib.Core.Path.{_≡_, refl, sym, ap, _∙_}
-use mathlib.Core.Bool.{Bool, true, false, not, cond, _&&_, _||_}
+use mathlib.Core.Bool.{Bool, true, false, not, cond, _&&_, _||_, or-assoc}
 use mathlib.Core.List.{List, [], _∷_}
 use Prim.Native.Nat.{ℕ, zero, suc, _+_, _-_, _≤_, _<_}
 use native.Mathlib.Omega.{arith}
-use borrow.Author.Tests.{not-true}
-use lib.ListN.{length, drop, getD, set, length-set, drop-of-length-le}
-use lib.Seq.{getD-set-same}
+use borrow.Author.Tests.{eqb-true, eqb-false, eq-eqb, not-true}
+use lib.ListN.{length, take, drop, getD, set, replicate, length-set, drop-of-length-le}
+use lib.Dec.{eqb}
+use lib.Seq.{getD-take, getD-set-same, getD-set-other}
 use Rattle.text.specs.declared.bytes.Class.the-variants.{Alphanumeric}
-use Rattle.text.specs.Text.{Text, isIn, isAlphanumeric, begins, part}
-use Rattle.text.proofs.Laws.{split, and-left, and-right, or-true, clash}
+use Rattle.text.specs.Text.{Text, isIn, isAlphanumeric, begins}
+use Rattle.text.proofs.Laws.{and-left, and-right, and-id, and-false, or-id, or-true, clash}
 use Rattle.text.proofs.Runs.{drop-step}
 use Rattle.text.proofs.Words.{same-eq}
 use Rattle.message_model.specs.Value.{endsWord, findWord, isWholeWord}
-use Rattle.er7_value.specs.Starts.{letterBefore, Starts}
-use Rattle.er7_value.proofs.Hits.{part-first, before-next}
+use Rattle.er7_value.specs.Starts.{startsBehind, startsWord, Starts}
 
 -- ---- a whole word starts with no letter or digit before it
 
@@ -32,75 +32,66 @@ found-at v a zero x t e f g =
     let w = not a && endsWord (drop (length v) (x ∷ t)) in
     or-either (b && w) _ e (λ h. f (not-true a (and-left (not a) _ (and-right b w h))) (and-left b w h)) (g (cond b (length v - 1) 0))
 
--- v stands in t from index `at` on, with no letter or digit directly before it
-pub record Hit (v t : Text) : Type 0 where
-  pub at : ℕ
-  pub within : at < length t
-  pub free : letterBefore t at ≡ false
-  pub here : begins v (drop at t) ≡ true
-
-find-hit : (v t : Text) (i k n : ℕ) → i + n ≡ length t → findWord v (letterBefore t i) k (drop i t) ≡ true → Hit v t
-find-hit v t i k zero q e = unfold findWord in clash (sym (rw (drop-of-length-le t {i = i} (omega arith)) at e))
-find-hit v t i k (suc n) q e =
-    let d = drop-step t i (omega arith) in
-    found-at v (letterBefore t i) k (getD t i 0) (drop (i + 1) t) (rw d at e)
-    (λ f b. record { at = i; within = omega arith; free = f; here = rw d b })
-    (λ m f. find-hit v t (i + 1) m n (omega arith) (rw (before-next t i) f))
-
-pub word-hit : (v t : Text) → isWholeWord v t ≡ true → Hit v t
-unfolding isWholeWord letterBefore
-word-hit v t e = find-hit v t 0 0 (length t) (omega arith) e
-
 -- the first byte of a hit is that of v
-hit-first : (v t : Text) (i : ℕ) → 0 < length v → begins v (drop i t) ≡ true → getD t i 0 ≡ getD v 0 0
-unfolding begins part
-hit-first v t i h e = sym (part-first t i (length v) h) ∙ ap (λ (s : Text). getD s 0 0) (sym (same-eq v (part t i (length v)) e))
+hit-first : (v t : Text) → 0 < length v → begins v t ≡ true → getD t 0 0 ≡ getD v 0 0
+unfolding begins
+hit-first v t h e = sym (getD-take (length v) t 0 0 h) ∙ ap (λ (s : Text). getD s 0 0) (sym (same-eq v (take (length v) t) e))
+
+word-starts : (v : Text) (a : Bool) (k : ℕ) (t : Text) → 0 < length v → findWord v a k t ≡ true → startsBehind a t (getD v 0 0) ≡ true
+unfolding startsBehind
+word-starts v a k [] h e = unfold findWord in clash (sym e)
+word-starts v a k (x ∷ t) h e = found-at v a k x t e
+    (λ f b. rw (f, eq-eqb x (getD v 0 0) (hit-first v (x ∷ t) h b)))
+    (λ m f. rw (word-starts v (isAlphanumeric x) m t h f) (or-true (not a && eqb x (getD v 0 0))))
 
 -- a text in which the first byte of v is not marked does not have v as a word
 pub word-unmarked : (v t : Text) {starts : List Bool} → Starts t starts → 0 < length v → getD starts (getD v 0 0) false ≡ false → isWholeWord v t ≡ false
-word-unmarked v t {starts} g h e = by-word (isWholeWord v t) refl
+unfolding isWholeWord startsWord
+word-unmarked v t {starts} g h e = by-word (findWord v false 0 t) refl
   where
-    by-word : (b : Bool) → isWholeWord v t ≡ b → b ≡ false
+    by-word : (b : Bool) → findWord v false 0 t ≡ b → b ≡ false
     by-word false q = refl
-    by-word true q =
-        let p = word-hit v t q in
-        clash (sym (g .marked (p .at) (p .within) (p .free)) ∙ rw (hit-first v t (p .at) h (p .here)) e)
+    by-word true q = clash (sym (word-starts v false 0 t h q) ∙ sym (g .marked (getD v 0 0)) ∙ e)
 
 -- ---- marking
 
--- what is marked stays so
-still-marked : (s : List Bool) (b c : ℕ) (x : Bool) → getD s c false ≡ true → getD (set s b (getD s b false || x)) c false ≡ true
-still-marked [] b c x e = e
-still-marked (y ∷ s) zero zero x e = rw e
-still-marked (y ∷ s) zero (suc c) x e = e
-still-marked (y ∷ s) (suc b) zero x e = e
-still-marked (y ∷ s) (suc b) (suc c) x e = still-marked s b c x e
+pub none-marked : (n : ℕ) → Starts [] (replicate n false)
+unfolding startsWord startsBehind
+none-marked n = record { marked = go n }
+  where
+    go : (n b : ℕ) → getD (replicate n false) b false ≡ false
+    go zero b = refl
+    go (suc n) zero = refl
+    go (suc n) (suc b) = go n b
+
+mark-one : (s : List Bool) (x b : ℕ) (m : Bool) → x < length s → getD (set s x (getD s x false || m)) b false ≡ getD s b false || m && eqb x b
+mark-one s x b m h = by-same (eqb x b) refl
+  where
+    by-same : (q : Bool) → eqb x b ≡ q → getD (set s x (getD s x false || m)) b false ≡ getD s b false || m && q
+    by-same true q = rw (← eqb-true x b q, and-id m) (getD-set-same s x (getD s x false || m) false h)
+    by-same false q = rw (and-false m) (getD-set-other s x b (getD s x false || m) false (λ e. eqb-false x b q (sym e)) ∙ sym (or-id (getD s b false)))
 
 -- the bytes of t before index i are marked
 pub record Marking (t : Text) (i : ℕ) (after : Bool) (starts : List Bool) : Type 0 where
   pub within : i ≤ length t
   pub long : length starts ≡ 256
-  pub is : after ≡ letterBefore t i
-  pub marked : (j : ℕ) → j < i → letterBefore t j ≡ false → getD starts (getD t j 0) false ≡ true
+  pub is : (b : ℕ) → startsWord t b ≡ getD starts b false || startsBehind after (drop i t) b
 
-pub marking-start : (t : Text) {starts : List Bool} → length starts ≡ 256 → Marking t 0 false starts
-unfolding letterBefore
-marking-start t l = record { within = omega arith; long = l; is = refl; marked = λ j h. absurd (omega arith) }
+pub marking-start : (t : Text) {starts : List Bool} → length starts ≡ 256 → Starts [] starts → Marking t 0 false starts
+unfolding startsWord startsBehind
+marking-start t l g = record { within = omega arith; long = l; is = λ b. rw (g .marked b) }
 
 pub marking-more : {t : Text} {i : ℕ} {after next : Bool} {starts : List Bool} → Marking t i after starts → i < length t → getD t i 0 < 256
     → next ≡ isIn Alphanumeric (getD t i 0) → Marking t (i + 1) next (set starts (getD t i 0) (getD starts (getD t i 0) false || not after))
-unfolding isIn
-marking-more {t} {i} {after} {next} {starts} g h l e = record {
-  within = omega arith;
-  long = length-set starts (getD t i 0) _ ∙ g .long;
-  is = e ∙ sym (before-next t i);
-  marked = λ j m f. split j i
-      (λ o. still-marked starts (getD t i 0) (getD t j 0) (not after) (g .marked j o f))
-      (λ o.
-      let z : j ≡ i = omega arith in
-      let a : after ≡ false = g .is ∙ rw (← z) f in
-      rw z (getD-set-same starts (getD t i 0) _ false (omega (arith, g .long)) ∙ rw a (or-true (getD starts (getD t i 0) false))));
-}
+unfolding isIn startsBehind
+marking-more {t} {i} {after} {next} {starts} g h l e =
+    let x = getD t i 0 in
+    record {
+      within = omega arith;
+      long = length-set starts x _ ∙ g .long;
+      is = λ b. g .is b ∙ rw (drop-step t i h) (sym (rw (mark-one starts x b (not after) (omega (arith, g .long)), e) (or-assoc (getD starts b false) _ _)));
+    }
 
 pub marking-end : {t : Text} {i : ℕ} {after : Bool} {starts : List Bool} → Marking t i after starts → length t ≤ i → Starts t starts
-marking-end g h = record { marked = λ j m f. g .marked j (omega arith) f }
+unfolding startsBehind
+marking-end {t} {i} {after} {starts} g h = record { marked = λ b. sym (g .is b ∙ rw (drop-of-length-le t {i = i} h) (or-id (getD starts b false))) }

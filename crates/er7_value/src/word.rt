@@ -5,6 +5,7 @@ use text::bytes::Class;
 use text::bytes::is_in;
 use text::bytes::lower_byte;
 ghost use mathlib.Core.Path.{_≡_};
+ghost use mathlib.Core.List.{[]};
 ghost use Prim.Native.Nat.{_+_, _-_, _≤_};
 ghost use lib.ListN.{length, drop};
 ghost use Rattle.text.specs.Text.{Wrote, lower, part, begins};
@@ -61,8 +62,10 @@ fn letter_before(t: &[u8], i: usize) -> bool
     is_in(Class::Alphanumeric, t[i - 1])
 }
 
-// Marks each byte that stands in t with no letter or digit directly before it. The mark is set without a branch, which is faster.
+// Marks each byte that stands in t with no letter or digit directly before it, where none is marked yet. The mark is set without a branch,
+// which is faster.
 pub fn mark_starts(t: &[u8], starts: &mut [bool; 256])
+    requires { ⌜ Starts [] (now starts) ⌝ }
     ensures { λ _. ⌜ Starts (now (t .entry)) (now (starts .exit)) ⌝ }
 {
     let all = &mut starts[..];

@@ -13,6 +13,7 @@ use Rattle.er7_redact.specs.Action.{Action, ActionRead, is-action, no-action, k
 use Rattle.er7.specs.declared.separators.Separators.{Separators}
 use Rattle.refusal.specs.declared.Refusal.{Refusal}
 use Rattle.refusal.specs.Refusal.{number}
+use Rattle.refusal.specs.Limits.{TEXT_MAX}
 use Rattle.message_model.specs.Message.{Leaf, leaf, Segment, segment, messageOf, messageFault, printMessage}
 use Rattle.message_model.specs.Value.{value, encode, isWholeWord}
 use Rattle.policy_model.specs.Policy.{PolicyRead, read, refused, readPolicy, printPolicy}
@@ -126,9 +127,9 @@ unfoldable pub policyRefused : PolicyRead → ℕ → ℕ → Bool
 policyRefused (read p) n l = false
 policyRefused (refused e k) n l = eqb (number e) n && eqb k l
 
-unfoldable pub ruleCount : PolicyRead → ℕ
-ruleCount (read p) = length (p .rules)
-ruleCount (refused e n) = 0
+unfoldable pub rulesRead : PolicyRead → ℕ
+rulesRead (read p) = length (p .rules)
+rulesRead (refused e n) = 0
 
 unfoldable pub faultNumber : Option Refusal → ℕ
 faultNumber none = 0
@@ -158,7 +159,7 @@ times (suc k) t = t ++ times k t
 
 -- the buffers that every entry is lent, and with the report those that striplog lends
 unfoldable pub lent : Lent
-lent = record { output = 49152; scratch = 49152 }
+lent = record { output = TEXT_MAX; scratch = TEXT_MAX }
 
 unfoldable pub lentReport : LentReport
 lentReport = record { buffers = lent; report = 65536 }
@@ -183,9 +184,9 @@ unfoldable pub redactsTo : Answer Redaction → Text → Bool
 redactsTo (done d) u = same (d .text) u
 redactsTo (E.refused e n) u = false
 
-unfoldable pub refuses : {X : Type 0} → Answer X → ℕ → ℕ → Bool
-refuses (done x) n l = false
-refuses (E.refused e k) n l = eqb (number e) n && eqb k l
+unfoldable pub refusesWith : {X : Type 0} → Answer X → ℕ → ℕ → Bool
+refusesWith (done x) n l = false
+refusesWith (E.refused e k) n l = eqb (number e) n && eqb k l
 
 -- ---- the table
 
@@ -206,12 +207,12 @@ right (leaves-are s ns) = same (lastLeaves (messageOf (bytes s) .segments)) ns
 right (value-is s v w) = same (value usual (bytes s)) (bytes v) && same (encode usual (bytes v)) (bytes w)
 right (redacts m p key t r n) = sameOutcome (redactOutcome lentReport (bytes m) (bytes p) key) (bytes t) (bytes r) n
 right (gives-not m p t u) = redactsTo (redactAnswer lentReport (bytes m) (bytes p) 0) (bytes t) && not (redactsTo (redactAnswer lentReport (bytes m) (bytes p) 0) (bytes u))
-right (redact-refused m p n l) = refuses (redactAnswer lentReport (bytes m) (bytes p) 0) n l
+right (redact-refused m p n l) = refusesWith (redactAnswer lentReport (bytes m) (bytes p) 0) n l
 right (appends p q t) = gives (appendAnswer lent (bytes p) (bytes q)) (bytes t)
 right (builtin-prints n t) = gives (builtinAnswer lent n) (bytes t)
-right (builtin-rules n k) = eqb (ruleCount (readPolicy (builtinText n))) k
+right (builtin-rules n k) = eqb (rulesRead (readPolicy (builtinText n))) k
 right (payload-becomes s p t) = gives (payloadAnswer lent (bytes s) (bytes p) 0) (bytes t)
-right (payload-refused s p n) = refuses (payloadAnswer lent (bytes s) (bytes p) 0) n 0
+right (payload-refused s p n) = refusesWith (payloadAnswer lent (bytes s) (bytes p) 0) n 0
 right (rules-give k n l) = policyFault (readPolicy (times k (bytes "PID keep\n"))) n l
 right (segments-give k f w n) = eqb (faultNumber (messageFault (bytes "MSH|^~\\&" ++ times k (bytes "\rOBX" ++ times f (0x7c ∷ replicate w 0x61))))) n
 right (whole-word v t b) = sameBool (isWholeWord (bytes v) (bytes t)) b

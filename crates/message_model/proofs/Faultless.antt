@@ -5,7 +5,7 @@ use mathlib.Core.List.{List, [], _∷_, _++_}
 use mathlib.Core.Option.{Option, none, some}
 use Prim.Native.Nat.{ℕ, _+_, _≤_}
 use native.Mathlib.Omega.{arith}
-use borrow.Author.Tests.{leb-true, not-false}
+use borrow.Author.Tests.{leb-true, not-true, not-false}
 use lib.Dec.{eqb, leb, ltb}
 use lib.ListN.{length, take, drop, getD}
 use lib.Seq.{drop-cons}
@@ -13,9 +13,11 @@ use Rattle.text.specs.Text.{Text, bytes, same, all}
 use Rattle.text.proofs.Laws.{and-left, and-right}
 use Rattle.text.proofs.Words.{same-eq}
 use Rattle.refusal.specs.declared.Refusal.{Refusal}
-use Rattle.refusal.specs.Refusal.{tooLong}
+use Rattle.refusal.specs.Refusal.{tooLong, noForeign}
+use Rattle.refusal.specs.declared.input.Input.the-variants as Inputs
+use Rattle.refusal.specs.Limits.{LEAVES_MAX, SEGMENTS_MAX}
 use Rattle.er7.specs.declared.separators.Separators.{Separators}
-use Rattle.message_model.specs.Message.{mayDelimitAll, separatorsOf, isHeader, endsInCR, withoutLastCR, segmentLines, firstOf, leavesOf, isName, isNamed, segments, messageOf, isMessageByte, segmentsFault, messageFault}
+use Rattle.message_model.specs.Message.{mayDelimitAll, separatorsOf, isHeaderName, isHeader, endsInCR, withoutLastCR, segmentLines, firstOf, leavesOf, isNameByte, isName, isNamed, segments, messageOf, segmentsFault, messageFault}
 
 -- a test that refuses has passed
 passed : (b : Bool) (r : Refusal) (o : Option Refusal) → cond b (some r) o ≡ none → (b ≡ false) × (o ≡ none)
@@ -33,6 +35,7 @@ four a b c d e = let f = three a b c (and-left (a && b && c) d e) in (f .0, f .1
 pub record HeaderLine (l : Text) : Type 0 where
   pub long : 8 ≤ length l
   pub name : take 3 l ≡ bytes "MSH"
+  pub header : isHeaderName (take 3 l) ≡ true
   pub five : drop 3 l ≡ getD l 3 0 ∷ getD l 4 0 ∷ getD l 5 0 ∷ getD l 6 0 ∷ getD l 7 0 ∷ drop 8 l
   pub delimit : mayDelimitAll (getD l 3 0 ∷ getD l 4 0 ∷ getD l 5 0 ∷ getD l 6 0 ∷ getD l 7 0 ∷ []) ≡ true
   pub behind : eqb (length l) 8 || eqb (getD l 8 0) (getD l 3 0) ≡ true
@@ -45,6 +48,10 @@ five-bytes l h =
     (drop-cons l 6 0 (omega arith) ∙ ap (λ (z : Text). getD l 6 0 ∷ z)
     (drop-cons l 7 0 (omega arith)))))
 
+msh-header : (n : Text) → same n (bytes "MSH") ≡ true → isHeaderName n ≡ true
+unfolding isHeaderName
+msh-header n e = rw e
+
 pub header-line : (l : Text) → isHeader l ≡ true → HeaderLine l
 unfolding isHeader
 header-line l e =
@@ -52,34 +59,46 @@ header-line l e =
     let f = four (leb 8 (length l)) (same (take 3 l) (bytes "MSH")) (mayDelimitAll (take 5 (drop 3 l))) b e in
     let long : 8 ≤ length l = leb-true 8 (length l) (f .0) in
     let five = five-bytes l long in
-    record { long = long; name = same-eq (take 3 l) _ (f .1); five = five; delimit = rw five at (f .2); behind = f .3 }
+    record {
+      long = long;
+      name = same-eq (take 3 l) _ (f .1);
+      header = msh-header (take 3 l) (f .1);
+      five = five;
+      delimit = rw five at (f .2);
+      behind = f .3;
+    }
 
 -- ---- a line that is another segment
 
 pub record NamedLine (s : Separators) (l : Text) : Type 0 where
   pub long : 3 ≤ length l
   pub name : isName (take 3 l) ≡ true
+  pub no-header : isHeaderName (take 3 l) ≡ false
   pub behind : eqb (length l) 3 || eqb (getD l 3 0) (s .field) ≡ true
+
+name-no-header : (n : Text) → isName n ≡ true → isHeaderName n ≡ false
+unfolding isName
+name-no-header n e = not-true _ (and-right (all isNameByte n) _ e)
 
 pub named-line : (s : Separators) (l : Text) → isNamed s l ≡ true → NamedLine s l
 unfolding isNamed
 named-line s l e =
     let f = three (leb 3 (length l)) (isName (take 3 l)) (eqb (length l) 3 || eqb (getD l 3 0) (s .field)) e in
-    record { long = leb-true 3 (length l) (f .0); name = f .1; behind = f .2 }
+    record { long = leb-true 3 (length l) (f .0); name = f .1; no-header = name-no-header (take 3 l) (f .1); behind = f .2 }
 
 -- ---- lines
 
 -- lines that follow k segments with n leaves have no fault: the first is named, or is the first of all, and those behind it have none
 pub record FaultlessLines (s : Separators) (k n : ℕ) (l : Text) (ls : List Text) : Type 0 where
   pub named-or-first : eqb k 0 || isNamed s l ≡ true
-  pub within-limits : leb 256 k || ltb 4096 (n + length (leavesOf s (eqb k 0) l)) ≡ false
-  pub others : segmentsFault s (k + 1) (n + length (leavesOf s (eqb k 0) l)) ls ≡ none
+  pub within-limits : leb SEGMENTS_MAX k || ltb LEAVES_MAX (n + length (leavesOf s l)) ≡ false
+  pub others : segmentsFault s (k + 1) (n + length (leavesOf s l)) ls ≡ none
 
 pub faultless-lines : (s : Separators) (k n : ℕ) (l : Text) (ls : List Text) → segmentsFault s k n (l ∷ ls) ≡ none → FaultlessLines s k n l ls
 unfolding segmentsFault
 faultless-lines s k n l ls e =
     let a = passed (not (eqb k 0 || isNamed s l)) _ _ e in
-    let b = passed (leb 256 k || ltb 4096 (n + length (leavesOf s (eqb k 0) l))) _ _ (a .1) in
+    let b = passed (leb SEGMENTS_MAX k || ltb LEAVES_MAX (n + length (leavesOf s l))) _ _ (a .1) in
     record { named-or-first = not-false _ (a .0); within-limits = b .0; others = b .1 }
 
 -- there is a first line
@@ -104,7 +123,7 @@ pub record Faultless (t : Text) : Type 0 where
   pub others : List Text
   pub are : segmentLines [] (withoutLastCR t) ≡ line ∷ others
   pub not-too-long : tooLong t ≡ false
-  pub allowed : all isMessageByte t ≡ true
+  pub allowed : noForeign Inputs.Message t ≡ true
   pub header : isHeader line ≡ true
   pub no-fault : segmentsFault (separatorsOf line) 0 0 (line ∷ others) ≡ none
 
@@ -113,7 +132,7 @@ unfolding messageFault firstOf
 faultless t e =
     let f = lines [] (withoutLastCR t) in
     let a = passed (tooLong t) _ _ e in
-    let b = passed (not (all isMessageByte t)) _ _ (a .1) in
+    let b = passed (not (noForeign Inputs.Message t)) _ _ (a .1) in
     let c = passed (not (isHeader (f .line))) _ (segmentsFault (separatorsOf (f .line)) 0 0 (f .line ∷ f .others)) (rw (f .are) at (b .1)) in
     record {
       line = f .line;

@@ -1,32 +1,32 @@
 -- What holds of every message that was read: its header, and where its leaves stand. Assumes nothing.
 use mathlib.Core.Path.{_≡_, refl, ap}
-use mathlib.Core.Bool.{Bool, true, false}
+use mathlib.Core.Bool.{false}
 use mathlib.Core.List.{List, [], _∷_, _++_}
 use mathlib.Core.Option.{none, some}
-use Prim.Native.Nat.{_≤_}
+use Prim.Native.Nat.{ℕ, _+_, _≤_}
 use native.Mathlib.Omega.{arith}
 use borrow.Author.Tests.{ne-eqb}
 use lib.Dec.{eqb}
-use lib.ListN.{length, take, drop, length-append}
+use lib.ListN.{take, drop}
 use Rattle.text.specs.Text.{Text, bytes}
 use Rattle.text.proofs.Laws.{by-cond}
 use Rattle.er7.specs.declared.message.Place.{Place}
 use Rattle.er7.specs.declared.separators.Separators.{Separators}
-use Rattle.message_model.specs.Message.{Leaf, leaf, Label, Segment, segment, separatorsOf, firstOf, segmentLines, withoutLastCR, endsLeaf, next, leaves, leavesBehind, atField, leavesOf, count, segments, messageOf, messageFault}
+use Rattle.message_model.specs.Message.{Leaf, leaf, Label, Segment, segment, isHeaderName, separatorsOf, firstOf, segmentLines, withoutLastCR, endsLeaf, next, leaves, leavesBehind, atField, headerLeaves, leavesOf, count, segments, messageOf, segmentsFault, messageFault}
 use Rattle.message_model.proofs.Places.{pieceOf, next-piece}
-use Rattle.message_model.proofs.Faultless.{header-line, faultless, separators-are, segments-are}
+use Rattle.message_model.proofs.Faultless.{HeaderLine, header-line, named-line, faultless-lines, faultless, separators-are, segments-are}
 use Rattle.message_model.specs.Chain.{Piece, a-field, nextPlace, Chain, Chained}
 
 -- ---- the header
 
--- no segment is the header
+-- no segment is a header
 abbrev pub NoHeader : List Segment → Type 0
 NoHeader [] = Unit {0}
-NoHeader (segment g xs ∷ ss) = (g .header ≡ false) × NoHeader ss
+NoHeader (segment g xs ∷ ss) = (isHeaderName (g .name) ≡ false) × NoHeader ss
 
 -- the header's label
 abbrev pub headerLabel : Label
-headerLabel = record { name = bytes "MSH"; occurrence = 1; header = true }
+headerLabel = record { name = bytes "MSH"; occurrence = 1 }
 
 -- MSH-1 and MSH-2 before other leaves
 abbrev pub delimiterLeaves : Separators → List Leaf → List Leaf
@@ -42,25 +42,27 @@ pub record HeaderFirst (s : Separators) (ss : List Segment) : Type 0 where
   pub are : ss ≡ segment headerLabel (delimiterLeaves s rest) ∷ others
   pub no-other : NoHeader others
 
-no-other-header : (s : Separators) (seen ls : List Text) → 1 ≤ length seen → NoHeader (segments s seen ls)
+no-other-header : (s : Separators) (seen ls : List Text) (k n : ℕ) → 1 ≤ k → segmentsFault s k n ls ≡ none → NoHeader (segments s seen ls)
 unfolding segments
-no-other-header s seen [] h = tt
-no-other-header s seen (l ∷ ls) h =
-    (ne-eqb (length seen) 0 (λ e. omega arith), no-other-header s (seen ++ take 3 l ∷ []) ls (simp length-append (omega arith)))
+no-other-header s seen [] k n h e = tt
+no-other-header s seen (l ∷ ls) k n h e =
+    let f = faultless-lines s k n l ls e in
+    let z : eqb k 0 ≡ false = ne-eqb k 0 (λ e. omega arith) in
+    (named-line s l (rw z at (f .named-or-first)) .no-header, no-other-header s (seen ++ take 3 l ∷ []) ls (k + 1) _ (omega arith) (f .others))
 
-header-first : (s : Separators) (l : Text) (ls : List Text) → take 3 l ≡ bytes "MSH" → HeaderFirst s (segments s [] (l ∷ ls))
-unfolding segments count leavesOf
-header-first s l ls e = record {
+header-first : (s : Separators) (l : Text) (ls : List Text) → HeaderLine l → segmentsFault s 0 0 (l ∷ ls) ≡ none → HeaderFirst s (segments s [] (l ∷ ls))
+unfolding segments count leavesOf headerLeaves
+header-first s l ls h e = record {
   rest = leavesBehind s (atField 2) (drop 8 l);
   others = segments s (take 3 l ∷ []) ls;
-  are = ap (λ (n : Text). segment (record { name = n; occurrence = 1; header = true }) (leavesOf s true l) ∷ segments s (take 3 l ∷ []) ls) e;
-  no-other = no-other-header s (take 3 l ∷ []) ls (omega arith);
+  are = rw (h .header) (ap (λ (n : Text). segment (record { name = n; occurrence = 1 }) (headerLeaves s l) ∷ segments s (take 3 l ∷ []) ls) (h .name));
+  no-other = no-other-header s (take 3 l ∷ []) ls 1 _ (omega arith) (faultless-lines s 0 0 l ls e .others);
 }
 
 pub leaves-of-header : (t : Text) → messageFault t ≡ none → HeaderFirst (messageOf t .separators) (messageOf t .segments)
 leaves-of-header t e =
     let f = faultless t e in
-    rw (separators-are t f, segments-are t f) (header-first _ (f .line) (f .others) (header-line (f .line) (f .header) .name))
+    rw (separators-are t f, segments-are t f) (header-first _ (f .line) (f .others) (header-line (f .line) (f .header)) (f .no-fault))
 
 -- ---- where the leaves stand
 
@@ -78,15 +80,17 @@ module _ (s : Separators) where
   behind-chains [] p = tt
   behind-chains (x ∷ t) p = leaves-chain t [] (pieceOf s x) p (next s x p) (next-piece s x p)
 
-  pub line-chains : (b : Bool) (l : Text) → Chain (atField 0) (leavesOf s b l)
-  unfolding leavesOf
-  line-chains true l = ((a-field, unfold atField in refl), ((a-field, unfold atField in refl), behind-chains (drop 8 l) (atField 2)))
-  line-chains false l = behind-chains (drop 3 l) (atField 0)
+  pub line-chains : (l : Text) → Chain (atField 0) (leavesOf s l)
+  unfolding leavesOf headerLeaves
+  line-chains l =
+      by-cond (Chain (atField 0)) (isHeaderName (take 3 l)) _ _
+      (λ _. ((a-field, unfold atField in refl), ((a-field, unfold atField in refl), behind-chains (drop 8 l) (atField 2))))
+      (λ _. behind-chains (drop 3 l) (atField 0))
 
   pub segments-chain : (seen ls : List Text) → Chained (segments s seen ls)
   unfolding segments
   segments-chain seen [] = tt
-  segments-chain seen (l ∷ ls) = (line-chains (eqb (length seen) 0) l, segments-chain (seen ++ take 3 l ∷ []) ls)
+  segments-chain seen (l ∷ ls) = (line-chains l, segments-chain (seen ++ take 3 l ∷ []) ls)
 
 -- of every message, also of one that is refused
 pub message-chains : (t : Text) → Chained (messageOf t .segments)

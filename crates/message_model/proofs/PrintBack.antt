@@ -7,14 +7,14 @@ use mathlib.Core.Option.{none, some}
 use Prim.Native.Nat.{ℕ, suc, _+_, _-_, _≤_}
 use native.Mathlib.Omega.{arith}
 use borrow.Author.Tests.{eqb-true, eqb-false, eq-eqb, ne-eqb, lt-leb}
-use lib.Dec.{eqb, leb}
-use lib.ListN.{length, take, drop, getD, take-append-drop, length-append, drop-of-length-le}
+use lib.Dec.{eqb}
+use lib.ListN.{length, take, drop, getD, take-append-drop, drop-of-length-le}
 use lib.Seq.{append-snoc, drop-cons, take-suc, take-all}
 use Rattle.text.specs.Text.{Text}
 use Rattle.text.proofs.Laws.{clash}
 use Rattle.er7.specs.declared.message.Place.{Place}
 use Rattle.er7.specs.declared.separators.Separators.{Separators}
-use Rattle.message_model.specs.Message.{Leaf, leaf, Label, segment, separatorsOf, isHeader, endsInCR, withoutLastCR, segmentLines, endsLeaf, next, leaves, leavesBehind, atField, leavesOf, isNamed, count, segments, messageOf, segmentsFault, messageFault, touchable, delimiter, lead, printLeaves, printSegments, printMessage}
+use Rattle.message_model.specs.Message.{Leaf, leaf, Label, segment, isHeaderName, separatorsOf, isHeader, endsInCR, withoutLastCR, segmentLines, endsLeaf, next, leaves, leavesBehind, atField, headerLeaves, leavesOf, isNamed, count, segments, messageOf, segmentsFault, messageFault, touchable, delimiter, lead, printLeaves, printSegments, printMessage}
 use Rattle.message_model.proofs.Places.{Positive, positive-field, positive-next, pieceOf, next-piece, delimiter-next}
 use Rattle.message_model.proofs.Faultless.{five-bytes, header-line, named-line, faultless-lines, Lines, lines, faultless, separators-are, segments-are, last-is}
 use Rattle.message_model.specs.Chain.{Piece, a-field, a-repetition, a-component, a-subcomponent, nextPlace}
@@ -24,15 +24,15 @@ use Rattle.message_model.specs.Chain.{Piece, a-field, a-repetition, a-co
 -- a place whose leaf prints behind its delimiter
 record Delimited (g : Label) (p : Place) : Type 0 where
   positive : Positive p
-  past : g .header ≡ true → 3 ≤ p .field
+  past : isHeaderName (g .name) ≡ true → 3 ≤ p .field
 
 may-touch : (g : Label) (p : Place) → Delimited g p → touchable g p ≡ true
 unfolding touchable
-may-touch g p o = go (g .header) refl
+may-touch g p o = go (isHeaderName (g .name)) _ (λ e. lt-leb (p .field) _ (omega (arith, o .past e)))
   where
-    go : (b : Bool) → g .header ≡ b → not (b && leb (p .field) 2) ≡ true
-    go true e = rw (lt-leb (p .field) 2 (o .past e))
-    go false e = refl
+    go : (a b : Bool) → (a ≡ true → b ≡ false) → not (a && b) ≡ true
+    go true b h = rw (h refl)
+    go false b h = refl
 
 field-step : (k : Piece) (p : Place) → p .field ≤ nextPlace k p .field
 field-step a-field p = omega arith
@@ -86,14 +86,18 @@ behind f n l h e = go (eqb (length l) n) refl e
         let ne : length l ≡ n → ⊥ = eqb-false (length l) n q in
         inr (drop (suc n) l, drop-cons l n 0 (omega arith) ∙ ap (λ (z : ℕ). z ∷ drop (suc n) l) (eqb-true _ _ e))
 
-pub named-prints : (s : Separators) (g : Label) (l : Text) → g .header ≡ false → isNamed s l ≡ true
-    → take 3 l ++ printLeaves s g (leavesOf s false l) ≡ l
+-- the label of a line's segment, with the number k
+abbrev labelOf : Text → ℕ → Label
+labelOf l k = record { name = take 3 l; occurrence = k }
+
+pub named-prints : (s : Separators) (l : Text) (k : ℕ) → isNamed s l ≡ true → take 3 l ++ printLeaves s (labelOf l k) (leavesOf s l) ≡ l
 unfolding leavesOf
-named-prints s g l hd e =
+named-prints s l k e =
+    let g = labelOf l k in
     let f = named-line s l e in
-    let o : Delimited g (atField 0) = record { positive = positive-field 0; past = λ e. clash (sym e ∙ hd) } in
+    let o : Delimited g (atField 0) = record { positive = positive-field 0; past = λ e. clash (sym e ∙ f .no-header) } in
     let d = delimited-next s (s .field) g (atField 0) o in
-    rw (behind-prints s g (drop 3 l) (atField 0) d (positive-field 0) (behind (s .field) 3 l (f .long) (f .behind)))
+    rw (f .no-header, behind-prints s g (drop 3 l) (atField 0) d (positive-field 0) (behind (s .field) 3 l (f .long) (f .behind)))
     (take-append-drop 3 l)
 
 third : (s : Separators) (g : Label) → Delimited g (next s (s .field) (atField 2))
@@ -101,12 +105,12 @@ unfolding next atField
 third s g = rw (eq-eqb (s .field) (s .field) refl) (record { positive = positive-field 3; past = λ e. omega arith })
 
 -- any opener: MSH, FHS, BHS
-pub opener-prints : (s : Separators) (nm l : Text) (k : ℕ) → 8 ≤ length l → eqb (length l) 8 || eqb (getD l 8 0) (getD l 3 0) ≡ true → s ≡ separatorsOf l
-    → take 3 l ++ printLeaves s (record { name = nm; occurrence = k; header = true }) (leavesOf s true l) ≡ l
-unfolding leavesOf atField separatorsOf printLeaves lead touchable
-opener-prints s nm l k long e q =
-    let g : Label = record { name = nm; occurrence = k; header = true } in
-    rw (behind-prints s g (drop 8 l) (atField 2) (third s g) (positive-field 2) (behind (s .field) 8 l long (rw q e)))
+pub opener-prints : (s : Separators) (l : Text) (k : ℕ) → isHeaderName (take 3 l) ≡ true → 8 ≤ length l → eqb (length l) 8 || eqb (getD l 8 0) (getD l 3 0) ≡ true
+    → s ≡ separatorsOf l → take 3 l ++ printLeaves s (labelOf l k) (leavesOf s l) ≡ l
+unfolding leavesOf headerLeaves atField separatorsOf printLeaves lead touchable
+opener-prints s l k h long e q =
+    let g = labelOf l k in
+    rw (h, behind-prints s g (drop 8 l) (atField 2) (third s g) (positive-field 2) (behind (s .field) 8 l long (rw q e)), h)
     (rw q (ap (λ (z : Text). take 3 l ++ z) (sym (five-bytes l long)) ∙ take-append-drop 3 l))
 
 -- ---- lines
@@ -160,23 +164,23 @@ module _ (s : Separators) (cr : Bool) where
   one-prints l g xs [] seen e ih = front (g .name) (printLeaves s g xs) _ l e
   one-prints l g xs (m ∷ ls) seen e ih = rw ih (front (g .name) (printLeaves s g xs) _ l e)
 
-  pub others-print : (ls seen : List Text) (k n : ℕ) → 1 ≤ length seen → 1 ≤ k → segmentsFault s k n ls ≡ none
+  pub others-print : (ls seen : List Text) (k n : ℕ) → 1 ≤ k → segmentsFault s k n ls ≡ none
       → printSegments s cr (segments s seen ls) ≡ joined cr ls
   unfolding segments printSegments
-  others-print [] seen k n q h e = refl
-  others-print (l ∷ ls) seen k n q h e =
+  others-print [] seen k n h e = refl
+  others-print (l ∷ ls) seen k n h e =
       let f = faultless-lines s k n l ls e in
       let z : eqb k 0 ≡ false = ne-eqb k 0 (λ e. omega arith) in
-      let z′ : eqb (length seen) 0 ≡ false = ne-eqb (length seen) 0 (λ e. omega arith) in
-      one-prints l _ _ ls _ (rw z′ (named-prints s _ l refl (rw z at (f .named-or-first))))
-      (others-print ls (seen ++ take 3 l ∷ []) (k + 1) _ (simp length-append (omega arith)) (omega arith) (f .others))
+      one-prints l _ _ ls _ (named-prints s l _ (rw z at (f .named-or-first)))
+      (others-print ls (seen ++ take 3 l ∷ []) (k + 1) _ (omega arith) (f .others))
 
   all-print : (l : Text) (ls : List Text) → isHeader l ≡ true → s ≡ separatorsOf l → segmentsFault s 0 0 (l ∷ ls) ≡ none
       → printSegments s cr (segments s [] (l ∷ ls)) ≡ joined cr (l ∷ ls)
   unfolding segments count
   all-print l ls h q e =
-      one-prints l _ _ ls _ (opener-prints s (take 3 l) l 1 (header-line l h .long) (header-line l h .behind) q)
-      (others-print ls (take 3 l ∷ []) 1 _ (omega arith) (omega arith) (faultless-lines s 0 0 l ls e .others))
+      let f = header-line l h in
+      one-prints l _ _ ls _ (opener-prints s l 1 (f .header) (f .long) (f .behind) q)
+      (others-print ls (take 3 l ∷ []) 1 _ (omega arith) (faultless-lines s 0 0 l ls e .others))
 
 pub message-prints : (t : Text) → messageFault t ≡ none → printMessage (messageOf t) ≡ t
 unfolding printMessage

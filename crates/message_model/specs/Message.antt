@@ -8,21 +8,22 @@ use lib.Dec.{eqb, leb, ltb}
 use Rattle.text.specs.Text.{Text, bytes, isDigit, isUpper, isAlphanumeric, isBlank, same, all}
 use Rattle.refusal.specs.declared.Refusal.{Refusal}
 use Rattle.refusal.specs.declared.Refusal.the-variants.{TooLong, ForeignByte, BadHeader, BadSegment, TooMany}
-use Rattle.refusal.specs.Refusal.{tooLong, isPlain}
+use Rattle.refusal.specs.Refusal.{tooLong, noForeign}
+use Rattle.refusal.specs.declared.input.Input.the-variants as Inputs
+use Rattle.refusal.specs.Limits.{LEAVES_MAX, SEGMENTS_MAX}
 use Rattle.er7.specs.declared.message.Place.{Place}
 use Rattle.er7.specs.declared.separators.Separators.{Separators}
 
 -- ---- what a message is
 
--- a leaf: where it stands, whether a rule named it, and its bytes as they stand in the message; none if it vanished in a collapse
+-- the term "leaf": where it stands, whether it is "named", and its bytes as they stand in the message; none if it vanished in a collapse
 pub data Leaf : Type 0 where
   leaf : Place → Bool → Option Text → Leaf
 
--- a segment's name, its number among the segments of that name, and whether it is the header
+-- a segment's name, and its number among the segments of that name
 pub record Label : Type 0 where
   pub name : Text
   pub occurrence : ℕ
-  pub header : Bool
 
 pub data Segment : Type 0 where
   segment : Label → List Leaf → Segment
@@ -33,6 +34,10 @@ pub record Message : Type 0 where
   pub lastCR : Bool
 
 -- ---- the header
+
+-- the names of headers; only MSH opens a message
+unfoldable pub isHeaderName : Text → Bool
+isHeaderName n = same n (bytes "MSH") || same n (bytes "FHS") || same n (bytes "BHS")
 
 -- "none a letter, digit, blank, tab, CR or `"`"
 unfoldable pub mayDelimit : ℕ → Bool
@@ -104,13 +109,16 @@ leavesBehind s p (x ∷ t) = leaves s (next s x p) [] t
 unfoldable pub atField : ℕ → Place
 atField n = record { field = n; repetition = 1; component = 1; subcomponent = 1 }
 
--- the leaves of a line; "MSH-1 and MSH-2 are one leaf each"
-unfoldable pub leavesOf : Separators → Bool → Text → List Leaf
-leavesOf s true l =
+-- the leaves of a header's line; "MSH-1 and MSH-2 are one leaf each"
+unfoldable pub headerLeaves : Separators → Text → List Leaf
+headerLeaves s l =
     leaf (atField 1) false (some (s .field ∷ []))
     ∷ leaf (atField 2) false (some (s .component ∷ s .repetition ∷ s .escape ∷ s .subcomponent ∷ []))
     ∷ leavesBehind s (atField 2) (drop 8 l)
-leavesOf s false l = leavesBehind s (atField 0) (drop 3 l)
+
+-- the leaves of a line
+unfoldable pub leavesOf : Separators → Text → List Leaf
+leavesOf s l = cond (isHeaderName (take 3 l)) (headerLeaves s l) (leavesBehind s (atField 0) (drop 3 l))
 
 -- ---- segments
 
@@ -119,7 +127,7 @@ isNameByte b = isUpper b || isDigit b
 
 -- "A name is three capitals or digits"; not "a second MSH, any FHS, BHS"
 unfoldable pub isName : Text → Bool
-isName n = all isNameByte n && not (same n (bytes "MSH")) && not (same n (bytes "FHS")) && not (same n (bytes "BHS"))
+isName n = all isNameByte n && not (isHeaderName n)
 
 -- a line begins with a name, "followed by a field delimiter or the end"
 unfoldable pub isNamed : Separators → Text → Bool
@@ -130,13 +138,11 @@ unfoldable pub count : Text → List Text → ℕ
 count n [] = 0
 count n (m ∷ ms) = cond (same m n) 1 0 + count n ms
 
--- the segments of lines that follow segments with the names `seen`; the first of all is the header.
--- "Occurrences count from 1 among equal names"
+-- the segments of lines that follow segments with the names `seen`; "Occurrences count from 1 among equal names"
 unfoldable pub segments : Separators → List Text → List Text → List Segment
 segments s seen [] = []
 segments s seen (l ∷ ls) =
-    segment (record { name = take 3 l; occurrence = count (take 3 l) seen + 1; header = eqb (length seen) 0 })
-    (leavesOf s (eqb (length seen) 0) l)
+    segment (record { name = take 3 l; occurrence = count (take 3 l) seen + 1 }) (leavesOf s l)
     ∷ segments s (seen ++ take 3 l ∷ []) ls
 
 -- the message of the bytes t
@@ -151,24 +157,20 @@ messageOf t =
 
 -- ---- refusals: "2, 3, 4, then segments in order with 5 before 6"
 
--- "a byte other than 0x09, 0x20 to 0x7E, and: CR in a message"
-unfoldable pub isMessageByte : ℕ → Bool
-isMessageByte x = isPlain x || eqb x 0x0d
-
 -- the first fault of lines that follow k segments with n leaves: "empty, wrongly named, or a second MSH, any FHS, BHS";
 -- "over 256 segments, 4,096 leaves"
 unfoldable pub segmentsFault : Separators → ℕ → ℕ → List Text → Option Refusal
 segmentsFault s k n [] = none
 segmentsFault s k n (l ∷ ls) =
     cond (not (eqb k 0 || isNamed s l)) (some BadSegment)
-    (cond (leb 256 k || ltb 4096 (n + length (leavesOf s (eqb k 0) l))) (some TooMany)
-    (segmentsFault s (k + 1) (n + length (leavesOf s (eqb k 0) l)) ls))
+    (cond (leb SEGMENTS_MAX k || ltb LEAVES_MAX (n + length (leavesOf s l))) (some TooMany)
+    (segmentsFault s (k + 1) (n + length (leavesOf s l)) ls))
 
 unfoldable pub messageFault : Text → Option Refusal
 messageFault t =
     let ls = segmentLines [] (withoutLastCR t) in
     cond (tooLong t) (some TooLong)
-    (cond (not (all isMessageByte t)) (some ForeignByte)
+    (cond (not (noForeign Inputs.Message t)) (some ForeignByte)
     (cond (not (isHeader (firstOf ls))) (some BadHeader)
     (segmentsFault (separatorsOf (firstOf ls)) 0 0 ls)))
 
@@ -176,7 +178,7 @@ messageFault t =
 
 -- "MSH-1 and MSH-2 are never touched"
 unfoldable pub touchable : Label → Place → Bool
-touchable g p = not (g .header && leb (p .field) 2)
+touchable g p = not (isHeaderName (g .name) && leb (p .field) 2)
 
 -- the delimiter before a leaf follows from its place
 unfoldable pub delimiter : Separators → Place → ℕ

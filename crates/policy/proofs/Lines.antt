@@ -13,6 +13,7 @@ use Rattle.text.specs.Text.{Text, bytes, isWord, isBlank, notBlank, isIn, isEmp
 use Rattle.text.specs.declared.bytes.Class.the-variants.{Blank, NotBlank, AllBut}
 use Rattle.text.proofs.Laws.{clash}
 use Rattle.text.proofs.Runs.{between-length, part-more}
+use Rattle.text.specs.Characters.{trimEnd, prepend, trim}
 use Rattle.er7.specs.Path.{Path, readPath, heldPath}
 use Rattle.er7.specs.Path as P
 use Rattle.er7.specs.declared.path.ParsedPath.{ParsedPath}
@@ -31,13 +32,13 @@ use Rattle.er7_redact.specs.declared.policy.Posture.the-variants.{Accept, Rejec
 use Rattle.er7.specs.declared.path.Path.{Path as HeldPath}
 use Rattle.refusal.specs.declared.Refusal.{Refusal}
 use Rattle.refusal.specs.declared.Refusal.the-variants.{TooMany, BadPath, BadDirective}
-use Rattle.policy_model.specs.Policy.{posture, unrecognised, trimEnd, prepend, sayAccept, sayReject, sayUnrecognised, sayRule, withAction, withPath, judged, says, head, spoken, notCR, notHash, trim, saysLine}
+use Rattle.policy_model.specs.Policy.{posture, unrecognised, readAccept, readReject, readUnrecognised, readRule, withAction, withPath, judged, readDirective, lineKind, readWords, notCR, notHash, readLine}
 use Rattle.policy.specs.declared.line.Unrecognised.{Unrecognised as HeldUnrecognised}
 use Rattle.policy.specs.declared.line.Unrecognised.the-variants.{Pass, Refuse}
-use Rattle.policy.specs.declared.line.Saying.{Saying as HeldSaying}
-use Rattle.policy.specs.declared.line.Saying.the-variants.{Nothing, Rule, Posture, Unrecognised, Wrong}
-use Rattle.policy.specs.declared.line.Head.{Head as HeldHead}
-use Rattle.policy.specs.Line.{asHead, asSaying, asUnrecognised, asParsedAction, asParsedPath, ParsedActionHeld, ParsedPathHeld, Rejecting, Applying, Says, ActionAt, PathAt, TrimmedEnd}
+use Rattle.policy.specs.declared.line.LineRead.{LineRead as HeldLine}
+use Rattle.policy.specs.declared.line.LineRead.the-variants.{Nothing, Rule, Posture, Unrecognised, Wrong}
+use Rattle.policy.specs.declared.line.LineKind.{LineKind as HeldLineKind}
+use Rattle.policy.specs.Line.{asLineKind, asLine, asUnrecognised, asParsedAction, asParsedPath, ParsedActionHeld, ParsedPathHeld, Rejecting, Applying, LineAt, ActionAt, PathAt, TrimmedEnd}
 
 -- ---- what is read between two indices
 
@@ -94,30 +95,30 @@ some-between t i e h l = go (between t i e) (between-length t i e l)
 -- ---- directives and rules
 
 module _ (t : Text) (i e : ℕ) where
-  pub accept-bare : i ≡ e → Says t (sayAccept (between t i e)) (Posture Accept)
-  unfolding sayAccept isEmpty asSaying asPosture
+  pub accept-bare : i ≡ e → LineAt t (readAccept (between t i e)) (Posture Accept)
+  unfolding readAccept isEmpty asLine asPosture
   accept-bare h = record { is = rw (none-between t i e h); held = tt }
 
-  pub reject-bare : i ≡ e → Says t (sayReject (between t i e)) (Posture (Reject (Held.Replace 0 0)))
-  unfolding sayReject isEmpty asSaying asPosture asAction replacement
+  pub reject-bare : i ≡ e → LineAt t (readReject (between t i e)) (Posture (Reject (Held.Replace 0 0)))
+  unfolding readReject isEmpty asLine asPosture asAction replacement
   reject-bare h = record { is = rw (none-between t i e h); held = omega arith }
 
-  pub unrecognised-bare : i ≡ e → Says t (sayUnrecognised (between t i e)) (Wrong BadDirective)
-  unfolding sayUnrecognised isEmpty asSaying
+  pub unrecognised-bare : i ≡ e → LineAt t (readUnrecognised (between t i e)) (Wrong BadDirective)
+  unfolding readUnrecognised isEmpty asLine
   unrecognised-bare h = record { is = rw (none-between t i e h); held = tt }
 
   module _ (h : i < e) (l : e ≤ length t) where
-    pub accept-more : Says t (sayAccept (between t i e)) (Wrong BadDirective)
-    unfolding sayAccept asSaying
+    pub accept-more : LineAt t (readAccept (between t i e)) (Wrong BadDirective)
+    unfolding readAccept asLine
     accept-more = record { is = rw (some-between t i e h l); held = tt }
 
-    pub reject-wrong : {r : ParsedAction} {x : Refusal} → ActionAt t (readAction (between t i e)) r → r ≡ Actions.Refused x → Says t (sayReject (between t i e)) (Wrong x)
-    unfolding sayReject asSaying withAction asParsedAction
+    pub reject-wrong : {r : ParsedAction} {x : Refusal} → ActionAt t (readAction (between t i e)) r → r ≡ Actions.Refused x → LineAt t (readReject (between t i e)) (Wrong x)
+    unfolding readReject asLine withAction asParsedAction
     reject-wrong g q = record { is = rw (some-between t i e h l, sym (g .is), q); held = tt }
 
     pub reject-right : {r : ParsedAction} {a : HeldAction} {p : HeldPosture} → ActionAt t (readAction (between t i e)) r → r ≡ Actions.Parsed a → Rejecting a p
-        → Says t (sayReject (between t i e)) (Posture p)
-    unfolding sayReject asSaying withAction asParsedAction
+        → LineAt t (readReject (between t i e)) (Posture p)
+    unfolding readReject asLine withAction asParsedAction
     reject-right {r} {a} {p} g q k = record {
       is = rw (some-between t i e h l, sym (g .is), q) (ap posture (k .is t));
       held = k .held t (subst (ParsedActionHeld t) q (g .held));
@@ -125,45 +126,45 @@ module _ (t : Text) (i e : ℕ) where
 
     module _ (not-refuse : isWord (between t i e) (bytes "refuse") ≡ false) (not-pass : isWord (between t i e) (bytes "pass") ≡ false) where
       pub unrecognised-wrong : {r : ParsedAction} {x : Refusal} → ActionAt t (readAction (between t i e)) r → r ≡ Actions.Refused x
-          → Says t (sayUnrecognised (between t i e)) (Wrong x)
-      unfolding sayUnrecognised asSaying withAction asParsedAction
+          → LineAt t (readUnrecognised (between t i e)) (Wrong x)
+      unfolding readUnrecognised asLine withAction asParsedAction
       unrecognised-wrong g q = record { is = rw (some-between t i e h l, not-refuse, not-pass, sym (g .is), q); held = tt }
 
       pub unrecognised-right : {r : ParsedAction} {a : HeldAction} {u : HeldUnrecognised} → ActionAt t (readAction (between t i e)) r → r ≡ Actions.Parsed a
-          → Applying a u → Says t (sayUnrecognised (between t i e)) (Unrecognised u)
-      unfolding sayUnrecognised asSaying withAction asParsedAction
+          → Applying a u → LineAt t (readUnrecognised (between t i e)) (Unrecognised u)
+      unfolding readUnrecognised asLine withAction asParsedAction
       unrecognised-right {r} {a} {u} g q k = record {
         is = rw (some-between t i e h l, not-refuse, not-pass, sym (g .is), q) (ap unrecognised (k .is t));
         held = k .held t (subst (ParsedActionHeld t) q (g .held));
       }
 
-    pub unrecognised-refuse : isWord (between t i e) (bytes "refuse") ≡ true → Says t (sayUnrecognised (between t i e)) (Unrecognised Refuse)
-    unfolding sayUnrecognised asSaying asUnrecognised
+    pub unrecognised-refuse : isWord (between t i e) (bytes "refuse") ≡ true → LineAt t (readUnrecognised (between t i e)) (Unrecognised Refuse)
+    unfolding readUnrecognised asLine asUnrecognised
     unrecognised-refuse q = record { is = rw (some-between t i e h l, q); held = tt }
 
     pub unrecognised-pass : isWord (between t i e) (bytes "refuse") ≡ false → isWord (between t i e) (bytes "pass") ≡ true
-        → Says t (sayUnrecognised (between t i e)) (Unrecognised Pass)
-    unfolding sayUnrecognised asSaying asUnrecognised
+        → LineAt t (readUnrecognised (between t i e)) (Unrecognised Pass)
+    unfolding readUnrecognised asLine asUnrecognised
     unrecognised-pass p q = record { is = rw (some-between t i e h l, p, q); held = tt }
 
 -- a rule's action, then its path
 module _ (t w s : Text) where
-  pub rule-wrong : {r : ParsedAction} {x : Refusal} → ActionAt t (readAction s) r → r ≡ Actions.Refused x → Says t (sayRule w s) (Wrong x)
-  unfolding sayRule asSaying withAction asParsedAction
+  pub rule-wrong : {r : ParsedAction} {x : Refusal} → ActionAt t (readAction s) r → r ≡ Actions.Refused x → LineAt t (readRule w s) (Wrong x)
+  unfolding readRule asLine withAction asParsedAction
   rule-wrong g q = record { is = rw (sym (g .is), q); held = tt }
 
-  pub rule-right : {r : ParsedAction} {a : HeldAction} {said : HeldSaying} → ActionAt t (readAction s) r → r ≡ Actions.Parsed a
-      → Says t (withPath (asAction t a) (readPath w)) said → Says t (sayRule w s) said
-  unfolding sayRule withAction asParsedAction
+  pub rule-right : {r : ParsedAction} {a : HeldAction} {said : HeldLine} → ActionAt t (readAction s) r → r ≡ Actions.Parsed a
+      → LineAt t (withPath (asAction t a) (readPath w)) said → LineAt t (readRule w s) said
+  unfolding readRule withAction asParsedAction
   rule-right g q k = record { is = rw (sym (g .is), q) (k .is); held = k .held }
 
-  pub path-wrong : {r : ParsedPath} (a : HeldAction) → PathAt t (readPath w) r → r ≡ Paths.BadPath → Says t (withPath (asAction t a) (readPath w)) (Wrong BadPath)
-  unfolding asSaying withPath asParsedPath
+  pub path-wrong : {r : ParsedPath} (a : HeldAction) → PathAt t (readPath w) r → r ≡ Paths.BadPath → LineAt t (withPath (asAction t a) (readPath w)) (Wrong BadPath)
+  unfolding asLine withPath asParsedPath
   path-wrong a g q = record { is = rw (sym (g .is), q); held = tt }
 
   pub path-right : {r : ParsedPath} {p : HeldPath} (a : HeldAction) → ActionHeld t a → PathAt t (readPath w) r → r ≡ Paths.Parsed p
-      → Says t (withPath (asAction t a) (readPath w)) (Rule (record { path = p; action = a }))
-  unfolding asSaying withPath asParsedPath asRule
+      → LineAt t (withPath (asAction t a) (readPath w)) (Rule (record { path = p; action = a }))
+  unfolding asLine withPath asParsedPath asRule
   path-right a k g q = record { is = rw (sym (g .is), q); held = record { path = subst (ParsedPathHeld t) q (g .held); action = k } }
 
 -- ---- blanks at the end
@@ -228,30 +229,30 @@ module _ {t : Text} {i e j : ℕ} (l : e ≤ length t) (g : Trimming t i e j) wh
 -- ---- a line, from its last step to its first
 
 module _ (t : Text) (i m k e : ℕ) (h : m ≤ length t) (l : e ≤ length t) where
-  pub judged-long : ltb 64 (m - i) || ltb 80 (e - k) ≡ true → Says t (judged (between t i m) (between t k e)) (Wrong TooMany)
-  unfolding judged asSaying
+  pub judged-long : ltb 64 (m - i) || ltb 80 (e - k) ≡ true → LineAt t (judged (between t i m) (between t k e)) (Wrong TooMany)
+  unfolding judged asLine
   judged-long q = record { is = rw (between-length t i m h, between-length t k e l, q); held = tt }
 
-  pub judged-short : (g : HeldHead) {r : HeldSaying} → ltb 64 (m - i) || ltb 80 (e - k) ≡ false → asHead g ≡ head (between t i m)
-      → Says t (says (asHead g) (between t i m) (between t k e)) r → Says t (judged (between t i m) (between t k e)) r
+  pub judged-short : (g : HeldLineKind) {r : HeldLine} → ltb 64 (m - i) || ltb 80 (e - k) ≡ false → asLineKind g ≡ lineKind (between t i m)
+      → LineAt t (readDirective (asLineKind g) (between t i m) (between t k e)) r → LineAt t (judged (between t i m) (between t k e)) r
   unfolding judged
   judged-short c q f g = record { is = rw (between-length t i m h, between-length t k e l, q, sym f) (g .is); held = g .held }
 
-pub spoken-none : (t : Text) (i e : ℕ) → i ≡ e → Says t (spoken (between t i e)) Nothing
-unfolding spoken asSaying
-spoken-none t i e h = record { is = rw (none-between t i e h); held = tt }
+pub words-none : (t : Text) (i e : ℕ) → i ≡ e → LineAt t (readWords (between t i e)) Nothing
+unfolding readWords asLine
+words-none t i e h = record { is = rw (none-between t i e h); held = tt }
 
-pub spoken-some : (t : Text) (i m k e : ℕ) {r : HeldSaying} → i < e → e ≤ length t → RunTo (isIn NotBlank) t i e m → RunTo (isIn Blank) t m e k
-    → Says t (judged (between t i m) (between t k e)) r → Says t (spoken (between t i e)) r
+pub words-some : (t : Text) (i m k e : ℕ) {r : HeldLine} → i < e → e ≤ length t → RunTo (isIn NotBlank) t i e m → RunTo (isIn Blank) t m e k
+    → LineAt t (judged (between t i m) (between t k e)) r → LineAt t (readWords (between t i e)) r
 unfolding isIn
-spoken-some t i m k e {r} h l f g j = record {
+words-some t i m k e {r} h l f g j = record {
   is = j .is ∙ rw (f .run-is, g .rest-is, f .rest-is) (sym (full (between t i e) (some-between t i e h l)));
   held = j .held;
 }
   where
-    full : (s : Text) → isEmpty s ≡ false → spoken s ≡ judged (run notBlank s) (rest isBlank (rest notBlank s))
+    full : (s : Text) → isEmpty s ≡ false → readWords s ≡ judged (run notBlank s) (rest isBlank (rest notBlank s))
     full [] q = unfold isEmpty in clash q
-    full (x ∷ s) q = unfold spoken in refl
+    full (x ∷ s) q = unfold readWords in refl
 
 module _ (t : Text) (i e end : ℕ) (l : e ≤ length t) (f : RunTo (isIn (AllBut 0x0d)) t i e end) where
   no-return : between t i end ≡ run notCR (between t i e)
@@ -261,14 +262,14 @@ module _ (t : Text) (i e end : ℕ) (l : e ≤ length t) (f : RunTo (isIn (AllBu
   line-length : length (run notCR (between t i e)) ≡ end - i
   line-length = ap length (sym no-return) ∙ between-length t i end (omega (arith, f .high))
 
-  pub line-long : 255 < end - i → Says t (saysLine (between t i e)) (Wrong TooMany)
-  unfolding saysLine asSaying
+  pub line-long : 255 < end - i → LineAt t (readLine (between t i e)) (Wrong TooMany)
+  unfolding readLine asLine
   line-long h = record { is = rw (line-length, lt-ltb 255 (end - i) h); held = tt }
 
-  pub line-says : {hash start stop : ℕ} {r : HeldSaying} → end - i ≤ 255 → RunTo (isIn (AllBut 0x23)) t i end hash → RunTo (isIn Blank) t i hash start
-      → TrimmedEnd t start hash stop → Says t (spoken (between t start stop)) r → Says t (saysLine (between t i e)) r
-  unfolding saysLine trim isIn notHash
-  line-says {hash} {start} {stop} {r} h g b k s = record {
-    is = s .is ∙ rw (line-length, le-ltb 255 (end - i) h, sym no-return, sym (g .run-is), sym (b .rest-is)) (ap spoken (k .is));
+  pub line-reads : {hash start stop : ℕ} {r : HeldLine} → end - i ≤ 255 → RunTo (isIn (AllBut 0x23)) t i end hash → RunTo (isIn Blank) t i hash start
+      → TrimmedEnd t start hash stop → LineAt t (readWords (between t start stop)) r → LineAt t (readLine (between t i e)) r
+  unfolding readLine trim isIn notHash
+  line-reads {hash} {start} {stop} {r} h g b k s = record {
+    is = s .is ∙ rw (line-length, le-ltb 255 (end - i) h, sym no-return, sym (g .run-is), sym (b .rest-is)) (ap readWords (k .is));
     held = s .held;
   }

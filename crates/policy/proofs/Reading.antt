@@ -1,11 +1,11 @@
 -- Laws of reading a policy line by line. Assumes nothing.
 use mathlib.Core.Path.{_≡_, refl, sym, ap, _∙_}
-use mathlib.Core.Bool.{Bool, true, false, not, _&&_, _||_}
+use mathlib.Core.Bool.{Bool, true, false, not}
 use mathlib.Core.List.{List, [], _∷_, _++_, map-append}
-use Prim.Native.Nat.{ℕ, suc, _+_, _-_, _≤_, _<_}
+use Prim.Native.Nat.{ℕ, suc, _+_, _≤_, _<_}
 use native.Mathlib.Numerals.{add-one}
 use native.Mathlib.Omega.{arith}
-use borrow.Author.Tests.{lt-ltb, le-ltb, eqb-true, eqb-false, ne-eqb}
+use borrow.Author.Tests.{lt-ltb, le-ltb, eqb-true, eqb-false}
 use lib.Dec.{eqb}
 use lib.ListN.{length, take, drop, getD, set, length-set, length-map, length-take, length-replicate, replicate, drop-of-length-le}
 use lib.Seq.{set-getD, take-suc-set, getD-set-same, getD-set-other}
@@ -15,20 +15,22 @@ use Rattle.text.proofs.Laws.{split}
 use Rattle.text.proofs.Runs.{drop-step}
 use Rattle.refusal.specs.declared.Refusal.{Refusal}
 use Rattle.refusal.specs.declared.Refusal.the-variants.{TooLong, ForeignByte, TooMany}
-use Rattle.refusal.specs.Refusal.{isPlain, tooLong}
+use Rattle.refusal.specs.Refusal.{tooLong, noForeign}
+use Rattle.refusal.specs.declared.input.Input.the-variants as Inputs
+use Rattle.refusal.specs.Limits.{INPUT_MAX, RULES_MAX}
 use Rattle.er7_redact.specs.Policy.{asRule, asPosture}
 use Rattle.er7_redact.specs.declared.policy.Rule.{Rule as HeldRule}
-use Rattle.policy_model.specs.Policy.{Policy, PolicyRead, refused, start, told, withRules, saysLine, push, policyLines, readLines, beginsInLF, isPolicyText, readPolicy}
-use Rattle.policy.specs.declared.line.Saying.{Saying as HeldSaying}
-use Rattle.policy.specs.declared.line.Saying.the-variants as Sayings
+use Rattle.policy_model.specs.Policy.{Policy, PolicyRead, refused, start, afterLine, withRules, readLine, push, policyLines, readLines, readPolicy}
+use Rattle.policy.specs.declared.line.LineRead.{LineRead as HeldLine}
+use Rattle.policy.specs.declared.line.LineRead.the-variants as LineReads
 use Rattle.policy.specs.declared.policy.Defaults.{Defaults}
 use Rattle.policy.specs.declared.policy.Fault.{Fault}
 use Rattle.policy.specs.declared.policy.Fault.the-variants as Faults
 use Rattle.policy.specs.declared.policy.ParsedPolicy.{ParsedPolicy}
 use Rattle.policy.specs.declared.policy.Verdict.the-variants.{Read, Refused}
-use Rattle.policy.specs.Line.{asUnrecognised, asSaying, SayingHeld, RuleHeld, PostureHeld, UnrecognisedHeld, Says}
+use Rattle.policy.specs.Line.{asUnrecognised, asLine, LineHeld, RuleHeld, PostureHeld, UnrecognisedHeld, LineAt}
 use Rattle.policy.specs.Policy.{asRules, asPolicy, asVerdict, asRead, RulesHeld, PolicyIs}
-use Rattle.policy.specs.Reading.{faultOf, placeOf, ruleOr, rulesIn, defaults, withSaying, policyOf, heldOf, RefusedAs, behindOne, NextLine, LinesRead, isByteAt}
+use Rattle.policy.specs.Reading.{lineFault, placeOf, ruleOr, rulesIn, defaults, withLine, policyOf, heldOf, RefusedAs, behindOne, NextLine, LinesRead}
 
 -- ---- lines
 
@@ -92,93 +94,93 @@ rules-more t rs n r h = rw (add-one, take-suc-set rs n r h) (map-append (asRule 
 no-fault : {X : Type 0} {e : Refusal} → _≡_ {A = Fault} (Faults.Is e) Faults.None → X
 no-fault h = let z : _≡_ {A = ℕ} 0 1 = cc in absurd (omega arith)
 
-module _ (t : Text) (rs : List HeldRule) (n line : ℕ) (d : Defaults) (few : n ≤ 128) (long : length rs ≡ 128) where
+module _ (t : Text) (rs : List HeldRule) (n line : ℕ) (d : Defaults) (few : n ≤ RULES_MAX) (long : length rs ≡ RULES_MAX) where
   kept : (z : HeldRule) (d : Defaults) → asPolicy t (policyOf rs n d) ≡ asPolicy t (policyOf (set rs (placeOf n) (getD rs (placeOf n) z)) (n + 0) d)
   kept z d = let e : n + 0 ≡ n = omega arith in rw (set-getD rs (placeOf n) z, e)
 
-  goes : (said : HeldSaying) (z : HeldRule) (f : Policy → PolicyRead) → faultOf said n ≡ Faults.None
-      → told line (asPolicy t (policyOf rs n d)) (asSaying t said) f
-      ≡ f (asPolicy t (policyOf (set rs (placeOf n) (ruleOr said (getD rs (placeOf n) z))) (n + rulesIn said) (withSaying d said)))
-  unfolding told asSaying ruleOr rulesIn withSaying faultOf
-  goes Sayings.Nothing z f h = ap f (kept z d)
-  goes (Sayings.Rule r) z f h =
-      split n 128
+  goes : (said : HeldLine) (z : HeldRule) (f : Policy → PolicyRead) → lineFault said n ≡ Faults.None
+      → afterLine line (asPolicy t (policyOf rs n d)) (asLine t said) f
+      ≡ f (asPolicy t (policyOf (set rs (placeOf n) (ruleOr said (getD rs (placeOf n) z))) (n + rulesIn said) (withLine d said)))
+  unfolding afterLine asLine ruleOr rulesIn withLine lineFault
+  goes LineReads.Nothing z f h = ap f (kept z d)
+  goes (LineReads.Rule r) z f h =
+      split n RULES_MAX
       (λ l. unfold asPolicy policyOf placeOf withRules in
-      rw (rules-length t rs n (omega arith), lt-ltb n 128 l, rules-more t rs n r (omega arith)))
-      (λ l. let q : _≡_ {A = Fault} (Faults.Is TooMany) Faults.None = sym (rw (le-ltb n 128 l)) ∙ h in no-fault q)
-  goes (Sayings.Posture p) z f h = unfold asPolicy policyOf in ap f (kept z (withSaying d (Sayings.Posture p)))
-  goes (Sayings.Unrecognised u) z f h = unfold asPolicy policyOf in ap f (kept z (withSaying d (Sayings.Unrecognised u)))
-  goes (Sayings.Sweep b) z f h = unfold asPolicy policyOf in ap f (kept z (withSaying d (Sayings.Sweep b)))
-  goes (Sayings.Wrong e) z f h = no-fault h
+      rw (rules-length t rs n (omega arith), lt-ltb n RULES_MAX l, rules-more t rs n r (omega arith)))
+      (λ l. let q : _≡_ {A = Fault} (Faults.Is TooMany) Faults.None = sym (rw (le-ltb n RULES_MAX l)) ∙ h in no-fault q)
+  goes (LineReads.Posture p) z f h = unfold asPolicy policyOf in ap f (kept z (withLine d (LineReads.Posture p)))
+  goes (LineReads.Unrecognised u) z f h = unfold asPolicy policyOf in ap f (kept z (withLine d (LineReads.Unrecognised u)))
+  goes (LineReads.Sweep b) z f h = unfold asPolicy policyOf in ap f (kept z (withLine d (LineReads.Sweep b)))
+  goes (LineReads.Wrong e) z f h = no-fault h
 
-  stops : (said : HeldSaying) (e : Refusal) (f : Policy → PolicyRead) → faultOf said n ≡ Faults.Is e
-      → told line (asPolicy t (policyOf rs n d)) (asSaying t said) f ≡ refused e line
-  unfolding told asSaying faultOf
-  stops Sayings.Nothing e f h = no-fault (sym h)
-  stops (Sayings.Rule r) e f h =
-      split n 128
-      (λ l. let q : _≡_ {A = Fault} Faults.None (Faults.Is e) = sym (rw (lt-ltb n 128 l)) ∙ h in no-fault (sym q))
+  stops : (said : HeldLine) (e : Refusal) (f : Policy → PolicyRead) → lineFault said n ≡ Faults.Is e
+      → afterLine line (asPolicy t (policyOf rs n d)) (asLine t said) f ≡ refused e line
+  unfolding afterLine asLine lineFault
+  stops LineReads.Nothing e f h = no-fault (sym h)
+  stops (LineReads.Rule r) e f h =
+      split n RULES_MAX
+      (λ l. let q : _≡_ {A = Fault} Faults.None (Faults.Is e) = sym (rw (lt-ltb n RULES_MAX l)) ∙ h in no-fault (sym q))
       (λ l. unfold asPolicy policyOf in
-      let q : _≡_ {A = Fault} (Faults.Is TooMany) (Faults.Is e) = sym (rw (le-ltb n 128 l)) ∙ h in
-      rw (rules-length t rs n (omega arith), le-ltb n 128 l) (ap (λ (x : Refusal). refused x line) cc))
-  stops (Sayings.Posture p) e f h = no-fault (sym h)
-  stops (Sayings.Unrecognised u) e f h = no-fault (sym h)
-  stops (Sayings.Sweep b) e f h = no-fault (sym h)
-  stops (Sayings.Wrong x) e f h = ap (λ (y : Refusal). refused y line) cc
+      let q : _≡_ {A = Fault} (Faults.Is TooMany) (Faults.Is e) = sym (rw (le-ltb n RULES_MAX l)) ∙ h in
+      rw (rules-length t rs n (omega arith), le-ltb n RULES_MAX l) (ap (λ (x : Refusal). refused x line) cc))
+  stops (LineReads.Posture p) e f h = no-fault (sym h)
+  stops (LineReads.Unrecognised u) e f h = no-fault (sym h)
+  stops (LineReads.Sweep b) e f h = no-fault (sym h)
+  stops (LineReads.Wrong x) e f h = ap (λ (y : Refusal). refused y line) cc
 
 -- names and replacements stay in the text
-module _ (t : Text) (rs : List HeldRule) (n : ℕ) (long : length rs ≡ 128) (g : RulesHeld t rs n) where
+module _ (t : Text) (rs : List HeldRule) (n : ℕ) (long : length rs ≡ RULES_MAX) (g : RulesHeld t rs n) where
   kept-held : (z : HeldRule) → RulesHeld t (set rs (placeOf n) (getD rs (placeOf n) z)) (n + 0)
   kept-held z = let e : n + 0 ≡ n = omega arith in rw (set-getD rs (placeOf n) z, e) g
 
-  more-held : (r : HeldRule) → RuleHeld t r → n < 128 → RulesHeld t (set rs n r) (n + 1)
+  more-held : (r : HeldRule) → RuleHeld t r → n < RULES_MAX → RulesHeld t (set rs n r) (n + 1)
   more-held r h l = record { each = λ k d m. by-eq (set rs n r) k d (eqb k n) refl m }
     where
       by-eq : (xs : List HeldRule) (k : ℕ) (d : HeldRule) (b : Bool) → eqb k n ≡ b → k < n + 1 → RuleHeld t (getD (set rs n r) k d)
       by-eq xs k d true e m = rw (eqb-true k n e, getD-set-same rs n r d (omega arith)) h
       by-eq xs k d false e m = let ne = eqb-false k n e in rw (getD-set-other rs n k r d ne) (g .each k d (omega arith))
 
-  rules-held : (said : HeldSaying) (z : HeldRule) → SayingHeld t said → faultOf said n ≡ Faults.None
+  rules-held : (said : HeldLine) (z : HeldRule) → LineHeld t said → lineFault said n ≡ Faults.None
       → RulesHeld t (set rs (placeOf n) (ruleOr said (getD rs (placeOf n) z))) (n + rulesIn said)
-  unfolding ruleOr rulesIn faultOf
-  rules-held Sayings.Nothing z h q = kept-held z
-  rules-held (Sayings.Rule r) z h q =
-      split n 128
-      (λ l. unfold placeOf in rw (lt-ltb n 128 l) (more-held r h l))
-      (λ l. let q : _≡_ {A = Fault} (Faults.Is TooMany) Faults.None = sym (rw (le-ltb n 128 l)) ∙ q in no-fault q)
-  rules-held (Sayings.Posture p) z h q = kept-held z
-  rules-held (Sayings.Unrecognised u) z h q = kept-held z
-  rules-held (Sayings.Sweep b) z h q = kept-held z
-  rules-held (Sayings.Wrong e) z h q = kept-held z
+  unfolding ruleOr rulesIn lineFault
+  rules-held LineReads.Nothing z h q = kept-held z
+  rules-held (LineReads.Rule r) z h q =
+      split n RULES_MAX
+      (λ l. unfold placeOf in rw (lt-ltb n RULES_MAX l) (more-held r h l))
+      (λ l. let q : _≡_ {A = Fault} (Faults.Is TooMany) Faults.None = sym (rw (le-ltb n RULES_MAX l)) ∙ q in no-fault q)
+  rules-held (LineReads.Posture p) z h q = kept-held z
+  rules-held (LineReads.Unrecognised u) z h q = kept-held z
+  rules-held (LineReads.Sweep b) z h q = kept-held z
+  rules-held (LineReads.Wrong e) z h q = kept-held z
 
-posture-held : (t : Text) (d : Defaults) (said : HeldSaying) → PostureHeld t (d .posture) → SayingHeld t said → PostureHeld t (withSaying d said .posture)
-unfolding withSaying
-posture-held t d Sayings.Nothing g h = g
-posture-held t d (Sayings.Rule r) g h = g
-posture-held t d (Sayings.Posture p) g h = h
-posture-held t d (Sayings.Unrecognised u) g h = g
-posture-held t d (Sayings.Sweep b) g h = g
-posture-held t d (Sayings.Wrong e) g h = g
+posture-held : (t : Text) (d : Defaults) (said : HeldLine) → PostureHeld t (d .posture) → LineHeld t said → PostureHeld t (withLine d said .posture)
+unfolding withLine
+posture-held t d LineReads.Nothing g h = g
+posture-held t d (LineReads.Rule r) g h = g
+posture-held t d (LineReads.Posture p) g h = h
+posture-held t d (LineReads.Unrecognised u) g h = g
+posture-held t d (LineReads.Sweep b) g h = g
+posture-held t d (LineReads.Wrong e) g h = g
 
-unrecognised-held : (t : Text) (d : Defaults) (said : HeldSaying) → UnrecognisedHeld t (d .unrecognised) → SayingHeld t said
-    → UnrecognisedHeld t (withSaying d said .unrecognised)
-unfolding withSaying
-unrecognised-held t d Sayings.Nothing g h = g
-unrecognised-held t d (Sayings.Rule r) g h = g
-unrecognised-held t d (Sayings.Posture p) g h = g
-unrecognised-held t d (Sayings.Unrecognised u) g h = h
-unrecognised-held t d (Sayings.Sweep b) g h = g
-unrecognised-held t d (Sayings.Wrong e) g h = g
+unrecognised-held : (t : Text) (d : Defaults) (said : HeldLine) → UnrecognisedHeld t (d .unrecognised) → LineHeld t said
+    → UnrecognisedHeld t (withLine d said .unrecognised)
+unfolding withLine
+unrecognised-held t d LineReads.Nothing g h = g
+unrecognised-held t d (LineReads.Rule r) g h = g
+unrecognised-held t d (LineReads.Posture p) g h = g
+unrecognised-held t d (LineReads.Unrecognised u) g h = h
+unrecognised-held t d (LineReads.Sweep b) g h = g
+unrecognised-held t d (LineReads.Wrong e) g h = g
 
-few-more : (n : ℕ) (said : HeldSaying) → n ≤ 128 → faultOf said n ≡ Faults.None → n + rulesIn said ≤ 128
-unfolding rulesIn faultOf
-few-more n Sayings.Nothing h q = omega arith
-few-more n (Sayings.Rule r) h q =
-    split n 128 (λ l. omega arith) (λ l. let q : _≡_ {A = Fault} (Faults.Is TooMany) Faults.None = sym (rw (le-ltb n 128 l)) ∙ q in no-fault q)
-few-more n (Sayings.Posture p) h q = omega arith
-few-more n (Sayings.Unrecognised u) h q = omega arith
-few-more n (Sayings.Sweep b) h q = omega arith
-few-more n (Sayings.Wrong e) h q = omega arith
+few-more : (n : ℕ) (said : HeldLine) → n ≤ RULES_MAX → lineFault said n ≡ Faults.None → n + rulesIn said ≤ RULES_MAX
+unfolding rulesIn lineFault
+few-more n LineReads.Nothing h q = omega arith
+few-more n (LineReads.Rule r) h q =
+    split n RULES_MAX (λ l. omega arith) (λ l. let q : _≡_ {A = Fault} (Faults.Is TooMany) Faults.None = sym (rw (le-ltb n RULES_MAX l)) ∙ q in no-fault q)
+few-more n (LineReads.Posture p) h q = omega arith
+few-more n (LineReads.Unrecognised u) h q = omega arith
+few-more n (LineReads.Sweep b) h q = omega arith
+few-more n (LineReads.Wrong e) h q = omega arith
 
 -- ---- the loop over lines
 
@@ -186,18 +188,18 @@ few-more n (Sayings.Wrong e) h q = omega arith
 pub record ReadingFrom (t : Text) (rs : List HeldRule) (n : ℕ) (d : Defaults) (line i : ℕ) : Type 0 where
   pub high : i ≤ length t
   pub numbered : line ≤ i + 1
-  pub long : length rs ≡ 128
-  pub few : n ≤ 128
+  pub long : length rs ≡ RULES_MAX
+  pub few : n ≤ RULES_MAX
   pub rules-in : RulesHeld t rs n
   pub posture-in : PostureHeld t (d .posture)
   pub unrecognised-in : UnrecognisedHeld t (d .unrecognised)
   pub is : readLines line (asPolicy t (policyOf rs n d)) (policyLines (drop i t)) ≡ readLines 1 start (policyLines t)
 
-pub reading-start : (t : Text) (r : HeldRule) → ReadingFrom t (replicate 128 r) 0 defaults 1 0
+pub reading-start : (t : Text) (r : HeldRule) → ReadingFrom t (replicate RULES_MAX r) 0 defaults 1 0
 reading-start t r = record {
   high = omega arith;
   numbered = omega arith;
-  long = length-replicate 128 r;
+  long = length-replicate RULES_MAX r;
   few = omega arith;
   rules-in = record { each = λ k d h. absurd (omega arith) };
   posture-in = unfold defaults in tt;
@@ -206,43 +208,43 @@ reading-start t r = record {
 }
 
 module _ {t : Text} {rs : List HeldRule} {n : ℕ} {d : Defaults} {line i : ℕ} (g : ReadingFrom t rs n d line i) where
-  module _ (h : i < length t) {e r : ℕ} (said : HeldSaying) (end : RunEnd (isIn (AllBut 0x0a)) t i e) (next : NextLine t e r)
-      (says : Says t (saysLine (between t i e)) said) where
+  module _ (h : i < length t) {e r : ℕ} (said : HeldLine) (end : RunEnd (isIn (AllBut 0x0a)) t i e) (next : NextLine t e r)
+      (readDirective : LineAt t (readLine (between t i e)) said) where
     turn : readLines line (asPolicy t (policyOf rs n d)) (policyLines (drop i t))
-        ≡ told line (asPolicy t (policyOf rs n d)) (asSaying t said) (λ q. readLines (suc line) q (policyLines (drop r t)))
-    turn = rw (lines-from t i e r h end next) (unfold readLines in rw (says .is))
+        ≡ afterLine line (asPolicy t (policyOf rs n d)) (asLine t said) (λ q. readLines (suc line) q (policyLines (drop r t)))
+    turn = rw (lines-from t i e r h end next) (unfold readLines in rw (readDirective .is))
 
-    stop-with : {refusal : Refusal} {p : ParsedPolicy} → faultOf said n ≡ Faults.Is refusal → RefusedAs refusal line p → LinesRead t p
+    stop-with : {refusal : Refusal} {p : ParsedPolicy} → lineFault said n ≡ Faults.Is refusal → RefusedAs refusal line p → LinesRead t p
     stop-with {refusal} {p} q k = record {
       is = k .is t ∙ sym (stops t rs n line d (g .few) (g .long) said refusal _ q) ∙ sym turn ∙ g .is;
       held = k .held t;
     }
 
-    reading-on : (z : HeldRule) → faultOf said n ≡ Faults.None
-        → ReadingFrom t (set rs (placeOf n) (ruleOr said (getD rs (placeOf n) z))) (n + rulesIn said) (withSaying d said) (line + 1) r
+    reading-on : (z : HeldRule) → lineFault said n ≡ Faults.None
+        → ReadingFrom t (set rs (placeOf n) (ruleOr said (getD rs (placeOf n) z))) (n + rulesIn said) (withLine d said) (line + 1) r
     reading-on z q = record {
       high = next .high;
       numbered = omega (arith, g .numbered, line-further t i e r h (end .low) next);
       long = length-set rs (placeOf n) _ ∙ g .long;
       few = few-more n said (g .few) q;
-      rules-in = rules-held t rs n (g .long) (g .rules-in) said z (says .held) q;
-      posture-in = posture-held t d said (g .posture-in) (says .held);
-      unrecognised-in = unrecognised-held t d said (g .unrecognised-in) (says .held);
+      rules-in = rules-held t rs n (g .long) (g .rules-in) said z (readDirective .held) q;
+      posture-in = posture-held t d said (g .posture-in) (readDirective .held);
+      unrecognised-in = unrecognised-held t d said (g .unrecognised-in) (readDirective .held);
       is = rw (add-one) (sym (goes t rs n line d (g .few) (g .long) said z (λ p. readLines (suc line) p (policyLines (drop r t))) q)) ∙ sym turn ∙ g .is;
     }
 
     -- with what the turn's calls answered: the place k, the rule there, the number of rules that the line says, the defaults
-    pub reading-more : {fault : Fault} {k m : ℕ} (z : HeldRule) {new : HeldRule} {d′ : Defaults} → fault ≡ faultOf said n → fault ≡ Faults.None
-        → k ≡ placeOf n → new ≡ ruleOr said (getD rs k z) → m ≡ rulesIn said → d′ ≡ withSaying d said
+    pub reading-more : {fault : Fault} {k m : ℕ} (z : HeldRule) {new : HeldRule} {d′ : Defaults} → fault ≡ lineFault said n → fault ≡ Faults.None
+        → k ≡ placeOf n → new ≡ ruleOr said (getD rs k z) → m ≡ rulesIn said → d′ ≡ withLine d said
         → ReadingFrom t (set rs k new) (n + m) d′ (line + 1) r
     reading-more z f q p o m w = rw (o, p, m, w) (reading-on z (sym f ∙ q))
 
-  pub reading-stop : (h : i < length t) {e : ℕ} (said : HeldSaying) → RunEnd (isIn (AllBut 0x0a)) t i e → Says t (saysLine (between t i e)) said
-      → {refusal : Refusal} {p : ParsedPolicy} → faultOf said n ≡ Faults.Is refusal → RefusedAs refusal line p → LinesRead t p
-  reading-stop h {e} said end says q k =
+  pub reading-stop : (h : i < length t) {e : ℕ} (said : HeldLine) → RunEnd (isIn (AllBut 0x0a)) t i e → LineAt t (readLine (between t i e)) said
+      → {refusal : Refusal} {p : ParsedPolicy} → lineFault said n ≡ Faults.Is refusal → RefusedAs refusal line p → LinesRead t p
+  reading-stop h {e} said end readDirective q k =
       split e (length t)
-      (λ l. stop-with h said end (line-next t e l) says q k)
-      (λ l. stop-with h said end (line-last t e (omega (arith, end .high))) says q k)
+      (λ l. stop-with h said end (line-next t e l) readDirective q k)
+      (λ l. stop-with h said end (line-last t e (omega (arith, end .high))) readDirective q k)
 
   pub reading-end : length t ≤ i → LinesRead t (heldOf rs n d Read)
   reading-end h = record {
@@ -250,51 +252,10 @@ module _ {t : Text} {rs : List HeldRule} {n : ℕ} {d : Defaults} {line i : ℕ}
     held = unfold heldOf policyOf in record { long = g .long; few = g .few; rules = g .rules-in; posture = g .posture-in; unrecognised = g .unrecognised-in };
   }
 
--- ---- the bytes of a policy
-
-module _ (t : Text) (i : ℕ) where
-  pub return-last : getD t i 0 ≡ 0x0d → i + 1 ≡ length t → false ≡ isByteAt t i
-  unfolding isByteAt isPlain beginsInLF
-  return-last e h = rw (e, drop-of-length-le t {i = i + 1} (omega arith))
-
-  pub return-then : getD t i 0 ≡ 0x0d → i + 1 < length t → eqb (getD t (i + 1) 0) 0x0a ≡ isByteAt t i
-  unfolding isByteAt isPlain beginsInLF
-  return-then e h = rw (e, drop-step t (i + 1) h)
-
-  pub other-byte : (getD t i 0 ≡ 0x0d → ⊥) → isPlain (getD t i 0) || eqb (getD t i 0) 0x0a ≡ isByteAt t i
-  unfolding isByteAt
-  other-byte h = rw (ne-eqb (getD t i 0) 0x0d h) (or-false (isPlain (getD t i 0) || eqb (getD t i 0) 0x0a))
-    where
-      or-false : (b : Bool) → b ≡ b || false
-      or-false true = refl
-      or-false false = refl
-
-  bytes-from : i < length t → isPolicyText (drop i t) ≡ isByteAt t i && isPolicyText (drop (i + 1) t)
-  unfolding isPolicyText isByteAt
-  bytes-from h = rw (drop-step t i h)
-
--- the bytes before index i are such as a policy may hold
-pub record BytesTo (t : Text) (i : ℕ) : Type 0 where
-  pub high : i ≤ length t
-  pub is : isPolicyText t ≡ isPolicyText (drop i t)
-
-pub bytes-start : (t : Text) → BytesTo t 0
-bytes-start t = record { high = omega arith; is = refl }
-
-module _ {t : Text} {i : ℕ} (g : BytesTo t i) where
-  pub bytes-more : i < length t → isByteAt t i ≡ true → BytesTo t (i + 1)
-  bytes-more h b = record { high = omega arith; is = g .is ∙ bytes-from t i h ∙ rw b }
-
-  pub bytes-stop : i < length t → isByteAt t i ≡ false → false ≡ isPolicyText t
-  bytes-stop h b = sym (g .is ∙ bytes-from t i h ∙ rw b)
-
-  pub bytes-end : length t ≤ i → true ≡ isPolicyText t
-  bytes-end h = sym (g .is ∙ rw (drop-of-length-le t h) (unfold isPolicyText in refl))
-
 -- ---- a whole text
 
 -- an answer that refuses
-pub refuses : (e : Refusal) (line : ℕ) (r : HeldRule) → RefusedAs e line (heldOf (replicate 128 r) 0 defaults (Refused e line))
+pub refuses : (e : Refusal) (line : ℕ) (r : HeldRule) → RefusedAs e line (heldOf (replicate RULES_MAX r) 0 defaults (Refused e line))
 refuses e line r = record {
   is = λ t. unfold asRead asVerdict heldOf in refl;
   held = λ t. unfold heldOf policyOf in
@@ -302,12 +263,12 @@ refuses e line r = record {
       record { long = g .long; few = g .few; rules = g .rules-in; posture = g .posture-in; unrecognised = g .unrecognised-in };
 }
 
-pub policy-long : (t : Text) {r : ParsedPolicy} → 32768 < length t → RefusedAs TooLong 0 r → PolicyIs t r
-policy-long t h g = record { is = g .is t ∙ (unfold readPolicy tooLong in rw (lt-ltb 32768 (length t) h)); held = g .held t }
+pub policy-long : (t : Text) {r : ParsedPolicy} → INPUT_MAX < length t → RefusedAs TooLong 0 r → PolicyIs t r
+policy-long t h g = record { is = g .is t ∙ (unfold readPolicy tooLong in rw (lt-ltb INPUT_MAX (length t) h)); held = g .held t }
 
-module _ (t : Text) (h : length t ≤ 32768) where
-  pub policy-foreign : {r : ParsedPolicy} → isPolicyText t ≡ false → RefusedAs ForeignByte 0 r → PolicyIs t r
-  policy-foreign b g = record { is = g .is t ∙ (unfold readPolicy tooLong in rw (le-ltb 32768 (length t) h, b)); held = g .held t }
+module _ (t : Text) (h : length t ≤ INPUT_MAX) where
+  pub policy-foreign : {r : ParsedPolicy} → noForeign Inputs.Policy t ≡ false → RefusedAs ForeignByte 0 r → PolicyIs t r
+  policy-foreign b g = record { is = g .is t ∙ (unfold readPolicy tooLong in rw (le-ltb INPUT_MAX (length t) h, b)); held = g .held t }
 
-  pub policy-lines : {r : ParsedPolicy} → isPolicyText t ≡ true → LinesRead t r → PolicyIs t r
-  policy-lines b g = record { is = g .is ∙ (unfold readPolicy tooLong in rw (le-ltb 32768 (length t) h, b)); held = g .held }
+  pub policy-lines : {r : ParsedPolicy} → noForeign Inputs.Policy t ≡ true → LinesRead t r → PolicyIs t r
+  policy-lines b g = record { is = g .is ∙ (unfold readPolicy tooLong in rw (le-ltb INPUT_MAX (length t) h, b)); held = g .held }

@@ -3,6 +3,7 @@ use mathlib.Core.Path.{_≡_}
 use mathlib.Core.Option.{Option, none, some}
 use Prim.Native.Nat.{ℕ, _≤_}
 use Rattle.text.specs.Text.{Text, between}
+use Rattle.text.specs.Characters.{trimEnd}
 use Rattle.er7.specs.Path.{Path, asPath, PathHeld}
 use Rattle.er7.specs.declared.path.ParsedPath.{ParsedPath}
 use Rattle.er7.specs.declared.path.ParsedPath.the-variants as Paths
@@ -14,21 +15,21 @@ use Rattle.er7_redact.specs.Policy.{asRule, asPosture}
 use Rattle.er7_redact.specs.declared.policy.Rule.{Rule as HeldRule}
 use Rattle.er7_redact.specs.declared.policy.Posture.{Posture as HeldPosture}
 use Rattle.er7_redact.specs.declared.policy.Posture.the-variants as Postures
-use Rattle.policy_model.specs.Policy.{Unrecognised, pass, refuse, apply, Saying, nothing, rule, posture, unrecognised, sweep, wrong, Head, accept-head, reject-head, unrecognised-head, known-values-head, star-head, path-head, rejecting, applying, trimEnd}
+use Rattle.policy_model.specs.Policy.{Unrecognised, pass, refuse, apply, LineRead, nothing, rule, posture, unrecognised, sweep, wrong, LineKind, accept-kind, reject-kind, unrecognised-kind, known-values-kind, star-kind, path-kind, rejecting, applying}
 use Rattle.policy.specs.declared.line.Unrecognised.{Unrecognised as HeldUnrecognised}
 use Rattle.policy.specs.declared.line.Unrecognised.the-variants as Held
-use Rattle.policy.specs.declared.line.Saying.{Saying as HeldSaying}
-use Rattle.policy.specs.declared.line.Saying.the-variants as Sayings
-use Rattle.policy.specs.declared.line.Head.{Head as HeldHead}
-use Rattle.policy.specs.declared.line.Head.the-variants as Heads
+use Rattle.policy.specs.declared.line.LineRead.{LineRead as HeldLine}
+use Rattle.policy.specs.declared.line.LineRead.the-variants as LineReads
+use Rattle.policy.specs.declared.line.LineKind.{LineKind as HeldLineKind}
+use Rattle.policy.specs.declared.line.LineKind.the-variants as LineKinds
 
-unfoldable pub asHead : HeldHead → Head
-asHead Heads.Accept = accept-head
-asHead Heads.Reject = reject-head
-asHead Heads.Unrecognised = unrecognised-head
-asHead Heads.KnownValues = known-values-head
-asHead Heads.Star = star-head
-asHead Heads.Path = path-head
+unfoldable pub asLineKind : HeldLineKind → LineKind
+asLineKind LineKinds.Accept = accept-kind
+asLineKind LineKinds.Reject = reject-kind
+asLineKind LineKinds.Unrecognised = unrecognised-kind
+asLineKind LineKinds.KnownValues = known-values-kind
+asLineKind LineKinds.Star = star-kind
+asLineKind LineKinds.Path = path-kind
 
 -- ---- what an enum stands for in the policy's text t
 
@@ -37,13 +38,13 @@ asUnrecognised t Held.Pass = pass
 asUnrecognised t Held.Refuse = refuse
 asUnrecognised t (Held.Apply a) = apply (asAction t a)
 
-unfoldable pub asSaying : Text → HeldSaying → Saying
-asSaying t Sayings.Nothing = nothing
-asSaying t (Sayings.Rule r) = rule (asRule t r)
-asSaying t (Sayings.Posture p) = posture (asPosture t p)
-asSaying t (Sayings.Unrecognised u) = unrecognised (asUnrecognised t u)
-asSaying t (Sayings.Sweep b) = sweep b
-asSaying t (Sayings.Wrong e) = wrong e
+unfoldable pub asLine : Text → HeldLine → LineRead
+asLine t LineReads.Nothing = nothing
+asLine t (LineReads.Rule r) = rule (asRule t r)
+asLine t (LineReads.Posture p) = posture (asPosture t p)
+asLine t (LineReads.Unrecognised u) = unrecognised (asUnrecognised t u)
+asLine t (LineReads.Sweep b) = sweep b
+asLine t (LineReads.Wrong e) = wrong e
 
 unfoldable pub asParsedAction : Text → ParsedAction → ActionRead
 asParsedAction t (Actions.Parsed a) = is-action (asAction t a)
@@ -68,13 +69,13 @@ UnrecognisedHeld t Held.Pass = Unit {0}
 UnrecognisedHeld t Held.Refuse = Unit {0}
 UnrecognisedHeld t (Held.Apply a) = ActionHeld t a
 
-abbrev pub SayingHeld : Text → HeldSaying → Type 0
-SayingHeld t Sayings.Nothing = Unit {0}
-SayingHeld t (Sayings.Rule r) = RuleHeld t r
-SayingHeld t (Sayings.Posture p) = PostureHeld t p
-SayingHeld t (Sayings.Unrecognised u) = UnrecognisedHeld t u
-SayingHeld t (Sayings.Sweep b) = Unit {0}
-SayingHeld t (Sayings.Wrong e) = Unit {0}
+abbrev pub LineHeld : Text → HeldLine → Type 0
+LineHeld t LineReads.Nothing = Unit {0}
+LineHeld t (LineReads.Rule r) = RuleHeld t r
+LineHeld t (LineReads.Posture p) = PostureHeld t p
+LineHeld t (LineReads.Unrecognised u) = UnrecognisedHeld t u
+LineHeld t (LineReads.Sweep b) = Unit {0}
+LineHeld t (LineReads.Wrong e) = Unit {0}
 
 abbrev pub ParsedActionHeld : Text → ParsedAction → Type 0
 ParsedActionHeld t (Actions.Parsed a) = ActionHeld t a
@@ -95,7 +96,7 @@ pub record Applying (a : HeldAction) (r : HeldUnrecognised) : Type 0 where
   pub is : (t : Text) → asUnrecognised t r ≡ applying (asAction t a)
   pub held : (t : Text) → ActionHeld t a → UnrecognisedHeld t r
 
--- r is the action, the path, or the saying, that was read from the text t
+-- r is the action, the path, or the line, that was read from the text t
 pub record ActionAt (t : Text) (a : ActionRead) (r : ParsedAction) : Type 0 where
   pub is : asParsedAction t r ≡ a
   pub held : ParsedActionHeld t r
@@ -104,9 +105,9 @@ pub record PathAt (t : Text) (p : Option Path) (r : ParsedPath) : Type 0 where
   pub is : asParsedPath t r ≡ p
   pub held : ParsedPathHeld t r
 
-pub record Says (t : Text) (said : Saying) (r : HeldSaying) : Type 0 where
-  pub is : asSaying t r ≡ said
-  pub held : SayingHeld t r
+pub record LineAt (t : Text) (said : LineRead) (r : HeldLine) : Type 0 where
+  pub is : asLine t r ≡ said
+  pub held : LineHeld t r
 
 -- r is where the text from index i to index e ends without the blanks at its end
 pub record TrimmedEnd (t : Text) (i e r : ℕ) : Type 0 where

@@ -12,6 +12,7 @@ use Rattle.policy.specs.declared.policy.ParsedPolicy.{ParsedPolicy}
 use Rattle.policy.specs.declared.policy.Verdict.{Verdict}
 use Rattle.policy.specs.declared.policy.Verdict.the-variants.{Read, Refused}
 use Rattle.policy.specs.Line.{asUnrecognised, RuleHeld, PostureHeld, UnrecognisedHeld}
+use Rattle.refusal.specs.Limits.{RULES_MAX}
 
 -- the first n rules of an array, and the policy, in the policy's text t
 unfoldable pub asRules : Text → List HeldRule → ℕ → List Rule
@@ -39,8 +40,8 @@ pub record RulesHeld (t : Text) (rs : List HeldRule) (n : ℕ) : Type 0 where
 
 -- .. and those of the policy
 pub record PolicyHeld (t : Text) (p : HeldPolicy) : Type 0 where
-  pub long : length (p .rules) ≡ 128
-  pub few : p .count ≤ 128
+  pub long : length (p .rules) ≡ RULES_MAX
+  pub few : p .count ≤ RULES_MAX
   pub rules : RulesHeld t (p .rules) (p .count)
   pub posture : PostureHeld t (p .posture)
   pub unrecognised : UnrecognisedHeld t (p .unrecognised)

@@ -1,20 +1,20 @@
 -- What the contracts of private functions cite that read a policy; no public contract rests on it. Assumes nothing: these are definitions.
 use mathlib.Core.Path.{_≡_}
-use mathlib.Core.Bool.{Bool, true, cond, _&&_, _||_}
+use mathlib.Core.Bool.{true, cond}
 use mathlib.Core.List.{List, [], _∷_}
-use Prim.Native.Nat.{ℕ, _+_, _≤_, _<_}
-use lib.ListN.{length, drop, getD}
-use lib.Dec.{eqb, ltb}
+use Prim.Native.Nat.{ℕ, _≤_, _<_}
+use lib.ListN.{length, drop}
+use lib.Dec.{ltb}
 use Rattle.text.specs.Text.{Text}
 use Rattle.refusal.specs.declared.Refusal.{Refusal}
 use Rattle.refusal.specs.declared.Refusal.the-variants.{TooMany}
-use Rattle.refusal.specs.Refusal.{isPlain}
+use Rattle.refusal.specs.Limits.{RULES_MAX}
 use Rattle.er7_redact.specs.declared.policy.Rule.{Rule as HeldRule}
 use Rattle.er7_redact.specs.declared.policy.Posture.the-variants as Postures
-use Rattle.policy_model.specs.Policy.{refused, start, policyLines, readLines, beginsInLF}
+use Rattle.policy_model.specs.Policy.{refused, start, policyLines, readLines}
 use Rattle.policy.specs.declared.line.Unrecognised.the-variants as Held
-use Rattle.policy.specs.declared.line.Saying.{Saying as HeldSaying}
-use Rattle.policy.specs.declared.line.Saying.the-variants as Sayings
+use Rattle.policy.specs.declared.line.LineRead.{LineRead as HeldLine}
+use Rattle.policy.specs.declared.line.LineRead.the-variants as LineReads
 use Rattle.policy.specs.declared.policy.Policy.{Policy as HeldPolicy}
 use Rattle.policy.specs.declared.policy.ParsedPolicy.{ParsedPolicy}
 use Rattle.policy.specs.declared.policy.Verdict.{Verdict}
@@ -25,33 +25,33 @@ use Rattle.policy.specs.Policy.{asRead, PolicyHeld}
 use Rattle.er7_redact.specs.declared.action.Action.the-variants as Actions
 
 -- why a line is refused that follows n rules
-unfoldable pub faultOf : HeldSaying → ℕ → Fault
-faultOf Sayings.Nothing n = Faults.None
-faultOf (Sayings.Rule r) n = cond (ltb n 128) Faults.None (Faults.Is TooMany)
-faultOf (Sayings.Posture p) n = Faults.None
-faultOf (Sayings.Unrecognised u) n = Faults.None
-faultOf (Sayings.Sweep b) n = Faults.None
-faultOf (Sayings.Wrong e) n = Faults.Is e
+unfoldable pub lineFault : HeldLine → ℕ → Fault
+lineFault LineReads.Nothing n = Faults.None
+lineFault (LineReads.Rule r) n = cond (ltb n RULES_MAX) Faults.None (Faults.Is TooMany)
+lineFault (LineReads.Posture p) n = Faults.None
+lineFault (LineReads.Unrecognised u) n = Faults.None
+lineFault (LineReads.Sweep b) n = Faults.None
+lineFault (LineReads.Wrong e) n = Faults.Is e
 
 -- where a rule goes that follows n rules, what stands there after a line, and how many rules the line says
 unfoldable pub placeOf : ℕ → ℕ
-placeOf n = cond (ltb n 128) n 127
+placeOf n = cond (ltb n RULES_MAX) n 127
 
-unfoldable pub ruleOr : HeldSaying → HeldRule → HeldRule
-ruleOr Sayings.Nothing old = old
-ruleOr (Sayings.Rule r) old = r
-ruleOr (Sayings.Posture p) old = old
-ruleOr (Sayings.Unrecognised u) old = old
-ruleOr (Sayings.Sweep b) old = old
-ruleOr (Sayings.Wrong e) old = old
+unfoldable pub ruleOr : HeldLine → HeldRule → HeldRule
+ruleOr LineReads.Nothing old = old
+ruleOr (LineReads.Rule r) old = r
+ruleOr (LineReads.Posture p) old = old
+ruleOr (LineReads.Unrecognised u) old = old
+ruleOr (LineReads.Sweep b) old = old
+ruleOr (LineReads.Wrong e) old = old
 
-unfoldable pub rulesIn : HeldSaying → ℕ
-rulesIn Sayings.Nothing = 0
-rulesIn (Sayings.Rule r) = 1
-rulesIn (Sayings.Posture p) = 0
-rulesIn (Sayings.Unrecognised u) = 0
-rulesIn (Sayings.Sweep b) = 0
-rulesIn (Sayings.Wrong e) = 0
+unfoldable pub rulesIn : HeldLine → ℕ
+rulesIn LineReads.Nothing = 0
+rulesIn (LineReads.Rule r) = 1
+rulesIn (LineReads.Posture p) = 0
+rulesIn (LineReads.Unrecognised u) = 0
+rulesIn (LineReads.Sweep b) = 0
+rulesIn (LineReads.Wrong e) = 0
 
 -- a rule that does nothing, for the places behind the last rule
 unfoldable pub noRule : HeldRule
@@ -65,13 +65,13 @@ noRule =
 unfoldable pub defaults : Defaults
 defaults = record { posture = Postures.Accept; unrecognised = Held.Refuse; sweep = true }
 
-unfoldable pub withSaying : Defaults → HeldSaying → Defaults
-withSaying d Sayings.Nothing = d
-withSaying d (Sayings.Rule r) = d
-withSaying d (Sayings.Posture p) = record { posture = p; unrecognised = d .unrecognised; sweep = d .sweep }
-withSaying d (Sayings.Unrecognised u) = record { posture = d .posture; unrecognised = u; sweep = d .sweep }
-withSaying d (Sayings.Sweep b) = record { posture = d .posture; unrecognised = d .unrecognised; sweep = b }
-withSaying d (Sayings.Wrong e) = d
+unfoldable pub withLine : Defaults → HeldLine → Defaults
+withLine d LineReads.Nothing = d
+withLine d (LineReads.Rule r) = d
+withLine d (LineReads.Posture p) = record { posture = p; unrecognised = d .unrecognised; sweep = d .sweep }
+withLine d (LineReads.Unrecognised u) = record { posture = d .posture; unrecognised = u; sweep = d .sweep }
+withLine d (LineReads.Sweep b) = record { posture = d .posture; unrecognised = d .unrecognised; sweep = b }
+withLine d (LineReads.Wrong e) = d
 
 -- the policy of the first n rules and the defaults, and the answer with it
 unfoldable pub policyOf : List HeldRule → ℕ → Defaults → HeldPolicy
@@ -101,7 +101,3 @@ pub record NextLine (t : Text) (e r : ℕ) : Type 0 where
 pub record LinesRead (t : Text) (r : ParsedPolicy) : Type 0 where
   pub is : asRead t r ≡ readLines 1 start (policyLines t)
   pub held : PolicyHeld t (r .policy)
-
--- the byte at index i may stand in a policy
-unfoldable pub isByteAt : Text → ℕ → Bool
-isByteAt t i = isPlain (getD t i 0) || eqb (getD t i 0) 0x0a || eqb (getD t i 0) 0x0d && beginsInLF (drop (i + 1) t)

@@ -21,7 +21,7 @@ ghost use Rattle.text.specs.Text.{bytes, isWord, between};
 ghost use Rattle.er7.specs.Path.{readPath};
 ghost use Rattle.er7_redact.specs.Action.{asAction, ActionHeld, readAction};
 ghost use Rattle.policy_model.specs.Policy as M;
-ghost use Rattle.policy.specs.Line.{asHead, Rejecting, Applying, ActionAt, PathAt, Says, TrimmedEnd};
+ghost use Rattle.policy.specs.Line.{asLineKind, Rejecting, Applying, ActionAt, PathAt, LineAt, TrimmedEnd};
 
 // What a payload gets: it passes, is refused, or gets an action.
 pub enum Unrecognised {
@@ -31,7 +31,7 @@ pub enum Unrecognised {
 }
 
 // What a line says.
-pub enum Saying {
+pub enum LineRead {
     Nothing,
     Rule(Rule),
     Posture(Posture),
@@ -41,7 +41,7 @@ pub enum Saying {
 }
 
 // What a line's first word picks.
-pub enum Head {
+pub enum LineKind {
     Accept,
     Reject,
     Unrecognised,
@@ -58,25 +58,25 @@ fn is_unrecognised(w: &[u8]) -> bool
 }
 
 // What a line's first word picks.
-fn head_of(w: &[u8]) -> Head
-    ensures { λ r. ⌜ asHead r ≡ M.head (now (w .entry)) ⌝ }
+fn line_kind(w: &[u8]) -> LineKind
+    ensures { λ r. ⌜ asLineKind r ≡ M.lineKind (now (w .entry)) ⌝ }
 {
     if is_word(w, b"accept") {
-        return Head::Accept;
+        return LineKind::Accept;
     }
     if is_word(w, b"reject") {
-        return Head::Reject;
+        return LineKind::Reject;
     }
     if is_unrecognised(w) {
-        return Head::Unrecognised;
+        return LineKind::Unrecognised;
     }
     if is_word(w, b"known-values") {
-        return Head::KnownValues;
+        return LineKind::KnownValues;
     }
     if is_word(w, b"*") {
-        return Head::Star;
+        return LineKind::Star;
     }
-    Head::Path
+    LineKind::Path
 }
 
 // The posture of `reject` with the action a.
@@ -116,121 +116,121 @@ fn path_at(text: &[u8], i: usize, e: usize) -> ParsedPath
 }
 
 // `accept` with what stands from index i to index e.
-fn say_accept(text: &[u8], i: usize, e: usize) -> Saying
+fn read_accept(text: &[u8], i: usize, e: usize) -> LineRead
     requires { ⌜ (i ≤ e) × (e ≤ length (now text)) ⌝ }
-    ensures { λ r. ⌜ Says (now (text .entry)) (M.sayAccept (between (now (text .entry)) i e)) r ⌝ }
+    ensures { λ r. ⌜ LineAt (now (text .entry)) (M.readAccept (between (now (text .entry)) i e)) r ⌝ }
 {
     if i == e {
-        return Saying::Posture(Posture::Accept);
+        return LineRead::Posture(Posture::Accept);
     }
-    Saying::Wrong(Refusal::BadDirective)
+    LineRead::Wrong(Refusal::BadDirective)
 }
 
 // `reject` with what stands from index i to index e.
-fn say_reject(text: &[u8], i: usize, e: usize) -> Saying
+fn read_reject(text: &[u8], i: usize, e: usize) -> LineRead
     requires { ⌜ (i ≤ e) × (e ≤ length (now text)) ⌝ }
-    ensures { λ r. ⌜ Says (now (text .entry)) (M.sayReject (between (now (text .entry)) i e)) r ⌝ }
+    ensures { λ r. ⌜ LineAt (now (text .entry)) (M.readReject (between (now (text .entry)) i e)) r ⌝ }
 {
     if i == e {
-        return Saying::Posture(Posture::Reject(Action::Replace { start: 0, len: 0 }));
+        return LineRead::Posture(Posture::Reject(Action::Replace { start: 0, len: 0 }));
     }
     match parse_action(text, i, e) {
-        ParsedAction::Parsed(a) => Saying::Posture(rejecting(a)),
-        ParsedAction::Refused(refusal) => Saying::Wrong(refusal),
+        ParsedAction::Parsed(a) => LineRead::Posture(rejecting(a)),
+        ParsedAction::Refused(refusal) => LineRead::Wrong(refusal),
     }
 }
 
 // `unrecognised` with what stands from index i to index e.
-fn say_unrecognised(text: &[u8], i: usize, e: usize) -> Saying
+fn read_unrecognised(text: &[u8], i: usize, e: usize) -> LineRead
     requires { ⌜ (i ≤ e) × (e ≤ length (now text)) ⌝ }
-    ensures { λ r. ⌜ Says (now (text .entry)) (M.sayUnrecognised (between (now (text .entry)) i e)) r ⌝ }
+    ensures { λ r. ⌜ LineAt (now (text .entry)) (M.readUnrecognised (between (now (text .entry)) i e)) r ⌝ }
 {
     if i == e {
-        return Saying::Wrong(Refusal::BadDirective);
+        return LineRead::Wrong(Refusal::BadDirective);
     }
     if is_word(&text[i..e], b"refuse") {
-        return Saying::Unrecognised(Unrecognised::Refuse);
+        return LineRead::Unrecognised(Unrecognised::Refuse);
     }
     if is_word(&text[i..e], b"pass") {
-        return Saying::Unrecognised(Unrecognised::Pass);
+        return LineRead::Unrecognised(Unrecognised::Pass);
     }
     match parse_action(text, i, e) {
-        ParsedAction::Parsed(a) => Saying::Unrecognised(applying(a)),
-        ParsedAction::Refused(refusal) => Saying::Wrong(refusal),
+        ParsedAction::Parsed(a) => LineRead::Unrecognised(applying(a)),
+        ParsedAction::Refused(refusal) => LineRead::Wrong(refusal),
     }
 }
 
 // `known-values` with what stands from index i to index e.
-fn say_known_values(text: &[u8], i: usize, e: usize) -> Saying
+fn read_known_values(text: &[u8], i: usize, e: usize) -> LineRead
     requires { ⌜ (i ≤ e) × (e ≤ length (now text)) ⌝ }
-    ensures { λ r. ⌜ Says (now (text .entry)) (M.sayKnownValues (between (now (text .entry)) i e)) r ⌝ }
+    ensures { λ r. ⌜ LineAt (now (text .entry)) (M.readKnownValues (between (now (text .entry)) i e)) r ⌝ }
 {
     if is_word(&text[i..e], b"on") {
-        return Saying::Sweep(true);
+        return LineRead::Sweep(true);
     }
     if is_word(&text[i..e], b"off") {
-        return Saying::Sweep(false);
+        return LineRead::Sweep(false);
     }
-    Saying::Wrong(Refusal::BadDirective)
+    LineRead::Wrong(Refusal::BadDirective)
 }
 
 // The action a at the path that stands from index i to index e.
-fn with_path(text: &[u8], i: usize, e: usize, a: Action) -> Saying
+fn with_path(text: &[u8], i: usize, e: usize, a: Action) -> LineRead
     requires { ⌜ (i ≤ e) × (e ≤ length (now text)) × ActionHeld (now text) a ⌝ }
-    ensures { λ r. ⌜ Says (now (text .entry)) (M.withPath (asAction (now (text .entry)) a) (readPath (between (now (text .entry)) i e))) r ⌝ }
+    ensures { λ r. ⌜ LineAt (now (text .entry)) (M.withPath (asAction (now (text .entry)) a) (readPath (between (now (text .entry)) i e))) r ⌝ }
 {
     match path_at(text, i, e) {
-        ParsedPath::Parsed(path) => Saying::Rule(Rule { path, action: a }),
-        ParsedPath::BadPath => Saying::Wrong(Refusal::BadPath),
+        ParsedPath::Parsed(path) => LineRead::Rule(Rule { path, action: a }),
+        ParsedPath::BadPath => LineRead::Wrong(Refusal::BadPath),
     }
 }
 
 // A rule: its path stands from index i to index m, its action from index k to index e.
-fn say_rule(text: &[u8], i: usize, m: usize, k: usize, e: usize) -> Saying
+fn read_rule(text: &[u8], i: usize, m: usize, k: usize, e: usize) -> LineRead
     requires { ⌜ (i ≤ m) × (m ≤ k) × (k ≤ e) × (e ≤ length (now text)) ⌝ }
-    ensures { λ r. ⌜ Says (now (text .entry)) (M.sayRule (between (now (text .entry)) i m) (between (now (text .entry)) k e)) r ⌝ }
+    ensures { λ r. ⌜ LineAt (now (text .entry)) (M.readRule (between (now (text .entry)) i m) (between (now (text .entry)) k e)) r ⌝ }
 {
     match parse_action(text, k, e) {
         ParsedAction::Parsed(a) => with_path(text, i, m, a),
         ParsedAction::Refused(refusal) => {
-            return Saying::Wrong(refusal);
+            return LineRead::Wrong(refusal);
         }
     }
 }
 
 // A line whose first word, from index i to index m, picks the head, and whose rest stands from index k to index e.
-fn says(head: Head, text: &[u8], i: usize, m: usize, k: usize, e: usize) -> Saying
+fn read_directive(kind: LineKind, text: &[u8], i: usize, m: usize, k: usize, e: usize) -> LineRead
     requires { ⌜ (i ≤ m) × (m ≤ k) × (k ≤ e) × (e ≤ length (now text)) ⌝ }
-    ensures { λ r. ⌜ Says (now (text .entry)) (M.says (asHead head) (between (now (text .entry)) i m) (between (now (text .entry)) k e)) r ⌝ }
+    ensures { λ r. ⌜ LineAt (now (text .entry)) (M.readDirective (asLineKind kind) (between (now (text .entry)) i m) (between (now (text .entry)) k e)) r ⌝ }
 {
-    match head {
-        Head::Accept => say_accept(text, k, e),
-        Head::Reject => say_reject(text, k, e),
-        Head::Unrecognised => say_unrecognised(text, k, e),
-        Head::KnownValues => say_known_values(text, k, e),
-        Head::Star => Saying::Wrong(Refusal::BadDirective),
-        Head::Path => say_rule(text, i, m, k, e),
+    match kind {
+        LineKind::Accept => read_accept(text, k, e),
+        LineKind::Reject => read_reject(text, k, e),
+        LineKind::Unrecognised => read_unrecognised(text, k, e),
+        LineKind::KnownValues => read_known_values(text, k, e),
+        LineKind::Star => LineRead::Wrong(Refusal::BadDirective),
+        LineKind::Path => read_rule(text, i, m, k, e),
     }
 }
 
 // The same, unless the first word or the rest is too long.
-fn judged(text: &[u8], i: usize, m: usize, k: usize, e: usize) -> Saying
+fn judged(text: &[u8], i: usize, m: usize, k: usize, e: usize) -> LineRead
     requires { ⌜ (i ≤ m) × (m ≤ k) × (k ≤ e) × (e ≤ length (now text)) ⌝ }
-    ensures { λ r. ⌜ Says (now (text .entry)) (M.judged (between (now (text .entry)) i m) (between (now (text .entry)) k e)) r ⌝ }
+    ensures { λ r. ⌜ LineAt (now (text .entry)) (M.judged (between (now (text .entry)) i m) (between (now (text .entry)) k e)) r ⌝ }
 {
     if (64 < m - i) | (80 < e - k) {
-        return Saying::Wrong(Refusal::TooMany);
+        return LineRead::Wrong(Refusal::TooMany);
     }
-    says(head_of(&text[i..m]), text, i, m, k, e)
+    read_directive(line_kind(&text[i..m]), text, i, m, k, e)
 }
 
 // What the text from index i to index e says, which has no comment and no blanks around it.
-fn spoken(text: &[u8], i: usize, e: usize) -> Saying
+fn read_words(text: &[u8], i: usize, e: usize) -> LineRead
     requires { ⌜ (i ≤ e) × (e ≤ length (now text)) ⌝ }
-    ensures { λ r. ⌜ Says (now (text .entry)) (M.spoken (between (now (text .entry)) i e)) r ⌝ }
+    ensures { λ r. ⌜ LineAt (now (text .entry)) (M.readWords (between (now (text .entry)) i e)) r ⌝ }
 {
     if i == e {
-        return Saying::Nothing;
+        return LineRead::Nothing;
     }
     let m = run_to(text, i, e, Class::NotBlank);
     let k = run_to(text, m, e, Class::Blank);
@@ -253,16 +253,16 @@ fn trimmed_end(text: &[u8], i: usize, e: usize) -> usize
 }
 
 // What the line from index i to index e says; a CR before its LF is no part of it.
-pub fn says_line(text: &[u8], i: usize, e: usize) -> Saying
+pub fn read_line(text: &[u8], i: usize, e: usize) -> LineRead
     requires { ⌜ (i ≤ e) × (e ≤ length (now text)) ⌝ }
-    ensures { λ r. ⌜ Says (now (text .entry)) (M.saysLine (between (now (text .entry)) i e)) r ⌝ }
+    ensures { λ r. ⌜ LineAt (now (text .entry)) (M.readLine (between (now (text .entry)) i e)) r ⌝ }
 {
     let end = run_to(text, i, e, Class::AllBut(b'\r'));
     if 255 < end - i {
-        return Saying::Wrong(Refusal::TooMany);
+        return LineRead::Wrong(Refusal::TooMany);
     }
     let hash = run_to(text, i, end, Class::AllBut(b'#'));
     let start = run_to(text, i, hash, Class::Blank);
     let stop = trimmed_end(text, start, hash);
-    spoken(text, start, stop)
+    read_words(text, start, stop)
 }

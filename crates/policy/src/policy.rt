@@ -1,24 +1,28 @@
 // Policies, and how they are read.
-use super::line::Saying;
+use super::line::LineRead;
 use super::line::Unrecognised;
-use super::line::says_line;
+use super::line::read_line;
 use er7::path::Path;
 use er7_redact::action::Action;
 use er7_redact::policy::Posture;
 use er7_redact::policy::Rule;
 use refusal::Refusal;
+use refusal::input::Input;
+use refusal::input::no_foreign;
+use refusal::limits::INPUT_MAX;
+use refusal::limits::RULES_MAX;
 use text::bytes::Class;
 use text::bytes::run_end;
 ghost use mathlib.Core.Path.{_≡_};
 ghost use Prim.Native.Nat.{suc, _≤_};
 ghost use lib.ListN.{length};
-ghost use Rattle.policy_model.specs.Policy.{isPolicyText};
 ghost use Rattle.policy.specs.Policy.{PolicyIs};
-ghost use Rattle.policy.specs.Reading.{faultOf, placeOf, ruleOr, rulesIn, withSaying, heldOf, defaults, noRule, RefusedAs, NextLine, LinesRead, isByteAt};
+ghost use Rattle.policy.specs.Reading.{lineFault, placeOf, ruleOr, rulesIn, withLine, heldOf, defaults, noRule, RefusedAs, NextLine, LinesRead};
+ghost use Rattle.refusal.specs.Limits.{INPUT_MAX};
 
 // The rules in their order, the first `count` of the array, and the three defaults. Names and replacements stand in the policy's text.
 pub struct Policy {
-    pub rules: [Rule; 128],
+    pub rules: [Rule; RULES_MAX],
     pub count: usize,
     pub posture: Posture,
     pub unrecognised: Unrecognised,
@@ -51,21 +55,21 @@ pub enum Fault {
 }
 
 // Why a line is refused that follows `count` rules.
-fn fault_of(said: Saying, count: usize) -> Fault
-    ensures { λ r. ⌜ r ≡ faultOf said count ⌝ }
+fn fault_of(said: LineRead, count: usize) -> Fault
+    ensures { λ r. ⌜ r ≡ lineFault said count ⌝ }
 {
     match said {
-        Saying::Nothing => Fault::None,
-        Saying::Rule(_) => {
-            if count < 128 {
+        LineRead::Nothing => Fault::None,
+        LineRead::Rule(_) => {
+            if count < RULES_MAX {
                 return Fault::None;
             }
             Fault::Is(Refusal::TooMany)
         }
-        Saying::Posture(_) => Fault::None,
-        Saying::Unrecognised(_) => Fault::None,
-        Saying::Sweep(_) => Fault::None,
-        Saying::Wrong(refusal) => Fault::Is(refusal),
+        LineRead::Posture(_) => Fault::None,
+        LineRead::Unrecognised(_) => Fault::None,
+        LineRead::Sweep(_) => Fault::None,
+        LineRead::Wrong(refusal) => Fault::Is(refusal),
     }
 }
 
@@ -80,59 +84,59 @@ fn place(count: usize) -> usize
 }
 
 // The rule that a line says, or the one that stood in its place.
-fn rule_or(said: Saying, old: Rule) -> Rule
+fn rule_or(said: LineRead, old: Rule) -> Rule
     ensures { λ r. ⌜ r ≡ ruleOr said old ⌝ }
 {
     match said {
-        Saying::Nothing => old,
-        Saying::Rule(rule) => rule,
-        Saying::Posture(_) => old,
-        Saying::Unrecognised(_) => old,
-        Saying::Sweep(_) => old,
-        Saying::Wrong(_) => old,
+        LineRead::Nothing => old,
+        LineRead::Rule(rule) => rule,
+        LineRead::Posture(_) => old,
+        LineRead::Unrecognised(_) => old,
+        LineRead::Sweep(_) => old,
+        LineRead::Wrong(_) => old,
     }
 }
 
 // How many rules a line says.
-fn rules_in(said: Saying) -> usize
+fn rules_in(said: LineRead) -> usize
     ensures { λ r. ⌜ (r ≡ rulesIn said) × (r ≤ 1) ⌝ }
 {
     match said {
-        Saying::Nothing => 0,
-        Saying::Rule(_) => 1,
-        Saying::Posture(_) => 0,
-        Saying::Unrecognised(_) => 0,
-        Saying::Sweep(_) => 0,
-        Saying::Wrong(_) => 0,
+        LineRead::Nothing => 0,
+        LineRead::Rule(_) => 1,
+        LineRead::Posture(_) => 0,
+        LineRead::Unrecognised(_) => 0,
+        LineRead::Sweep(_) => 0,
+        LineRead::Wrong(_) => 0,
     }
 }
 
 // The defaults after a line; a later directive replaces an earlier one.
-fn with_saying(d: Defaults, said: Saying) -> Defaults
-    ensures { λ r. ⌜ r ≡ withSaying d said ⌝ }
+fn with_line(d: Defaults, said: LineRead) -> Defaults
+    ensures { λ r. ⌜ r ≡ withLine d said ⌝ }
 {
     let p = d.posture;
     let u = d.unrecognised;
     let b = d.sweep;
     match said {
-        Saying::Nothing => d,
-        Saying::Rule(_) => d,
-        Saying::Posture(posture) => Defaults {
+        LineRead::Nothing => d,
+        LineRead::Rule(_) => d,
+        LineRead::Posture(posture) => Defaults {
             posture,
             unrecognised: u,
             sweep: b,
         },
-        Saying::Unrecognised(unrecognised) => Defaults {
+        LineRead::Unrecognised(unrecognised) => Defaults {
             posture: p,
             unrecognised,
             sweep: b,
         },
-        Saying::Sweep(sweep) => Defaults {
+        LineRead::Sweep(sweep) => Defaults {
             posture: p,
             unrecognised: u,
             sweep,
         },
-        Saying::Wrong(_) => d,
+        LineRead::Wrong(_) => d,
     }
 }
 
@@ -145,35 +149,6 @@ fn next_line(text: &[u8], e: usize) -> usize
         return e;
     }
     e + 1
-}
-
-// Whether the byte at index i may stand in a policy: CR only directly before LF.
-fn is_byte_at(text: &[u8], i: usize) -> bool
-    requires { ⌜ suc i ≤ length (now text) ⌝ }
-    ensures { λ r. ⌜ r ≡ isByteAt (now (text .entry)) i ⌝ }
-{
-    let b = text[i];
-    if b == b'\r' {
-        if i + 1 == text.len() {
-            return false;
-        }
-        return text[i + 1] == b'\n';
-    }
-    (b == 9) | ((32 <= b) & (b <= 126)) | (b == b'\n')
-}
-
-// Whether a text holds only bytes that a policy may hold.
-fn is_policy_text(text: &[u8]) -> bool
-    ensures { λ r. ⌜ r ≡ isPolicyText (now (text .entry)) ⌝ }
-{
-    let mut i = 0;
-    while i < text.len() {
-        if !is_byte_at(text, i) {
-            return false;
-        }
-        i += 1;
-    }
-    true
 }
 
 // A rule that does nothing, for the places behind the last rule.
@@ -196,7 +171,7 @@ fn no_rule() -> Rule
 }
 
 // The answer for `count` rules and these defaults.
-fn answer(rules: [Rule; 128], count: usize, d: Defaults, verdict: Verdict) -> ParsedPolicy
+fn answer(rules: [Rule; RULES_MAX], count: usize, d: Defaults, verdict: Verdict) -> ParsedPolicy
     ensures { λ r. ⌜ r ≡ heldOf rules count d verdict ⌝ }
 {
     let posture = d.posture;
@@ -228,7 +203,7 @@ fn refuse(refusal: Refusal, line: usize) -> ParsedPolicy
 {
     let rule = no_rule();
     answer(
-        [rule; 128],
+        [rule; RULES_MAX],
         0,
         first_defaults(),
         Verdict::Refused(refusal, line),
@@ -237,18 +212,18 @@ fn refuse(refusal: Refusal, line: usize) -> ParsedPolicy
 
 // Reads the lines of a text from the first on.
 fn read_lines(text: &[u8]) -> ParsedPolicy
-    requires { ⌜ length (now text) ≤ 32768 ⌝ }
+    requires { ⌜ length (now text) ≤ INPUT_MAX ⌝ }
     ensures { λ r. ⌜ LinesRead (now (text .entry)) r ⌝ }
 {
     let rule = no_rule();
-    let mut rules = [rule; 128];
+    let mut rules = [rule; RULES_MAX];
     let mut count = 0;
     let mut defaults = first_defaults();
     let mut line = 1;
     let mut i = 0;
     while i < text.len() {
         let e = run_end(text, i, Class::AllBut(b'\n'));
-        let said = says_line(text, i, e);
+        let said = read_line(text, i, e);
         match fault_of(said, count) {
             Fault::None => {}
             Fault::Is(refusal) => {
@@ -259,7 +234,7 @@ fn read_lines(text: &[u8]) -> ParsedPolicy
         let old = rules[k];
         rules[k] = rule_or(said, old);
         count += rules_in(said);
-        defaults = with_saying(defaults, said);
+        defaults = with_line(defaults, said);
         i = next_line(text, e);
         line += 1;
     }
@@ -270,10 +245,10 @@ fn read_lines(text: &[u8]) -> ParsedPolicy
 pub fn parse(text: &[u8]) -> ParsedPolicy
     ensures { λ r. ⌜ PolicyIs (now (text .entry)) r ⌝ }
 {
-    if 32768 < text.len() {
+    if INPUT_MAX < text.len() {
         return refuse(Refusal::TooLong, 0);
     }
-    if !is_policy_text(text) {
+    if !no_foreign(Input::Policy, text) {
         return refuse(Refusal::ForeignByte, 0);
     }
     read_lines(text)

@@ -9,8 +9,9 @@ use lib.ListN.{length, length-append, length-replicate}
 use Rattle.text.specs.Text.{Text, isBlank, notBlank, isEmpty, run, rest, all}
 use Rattle.text.proofs.Laws.{and-left, and-right, clash}
 use Rattle.text.proofs.Runs.{stop, rest-stop, run-all, rest-all, all-append}
+use Rattle.text.specs.Characters.{trim}
 use Rattle.refusal.specs.Refusal.{isPlain}
-use Rattle.policy_model.specs.Policy.{head, says, judged, spoken, trim, notCR, notHash, saysLine, gap, column}
+use Rattle.policy_model.specs.Policy.{lineKind, readDirective, judged, readWords, notCR, notHash, readLine, gap, column}
 use Rattle.policy_model.proofs.Texts.{run-whole, all-replicate, all-implies, full-append, stop-append, ends, trim-end, ends-append}
 use Rattle.policy_model.proofs.Bytes.{isLineByte, isWordByte, word-line, word-notBlank, line-notHash, line-notCR}
 
@@ -55,10 +56,10 @@ word-trimmed w h = record { begins = word-begins w h; closes = word-ends w h; by
 pub word-rest : (w : Text) → GoodWord w → GoodRest w
 word-rest w g = record { trimmed = word-trimmed w (g .bytes-fit); full = g .full; short = omega (arith, g .short) }
 
-spoken-full : (l : Text) → isEmpty l ≡ false → spoken l ≡ judged (run notBlank l) (rest isBlank (rest notBlank l))
-unfolding spoken isEmpty
-spoken-full [] h = clash h
-spoken-full (x ∷ l) h = refl
+words-full : (l : Text) → isEmpty l ≡ false → readWords l ≡ judged (run notBlank l) (rest isBlank (rest notBlank l))
+unfolding readWords isEmpty
+words-full [] h = clash h
+words-full (x ∷ l) h = refl
 
 -- ---- the blanks between the two
 
@@ -115,16 +116,16 @@ module _ (k : ℕ) (w s : Text) (gw : GoodWord w) (gs : GoodRest s) where
       rw (rest-all notBlank w (gap k w ++ s) word-run (gap-stop k w s))
       (rest-all isBlank (gap k w) s (gap-all k w isBlank (unfold isBlank in refl)) (gs .trimmed .begins))
 
-  pub column-says : k ≤ 64 → saysLine (column k w s) ≡ says (head w) w s
-  unfolding saysLine judged
-  column-says h =
+  pub column-reads : k ≤ 64 → readLine (column k w s) ≡ readDirective (lineKind w) w s
+  unfolding readLine judged
+  column-reads h =
       let l : Text = column k w s in
       rw (
         run-whole notCR l (all-implies isLineByte notCR line-notCR l column-bytes),
         run-whole notHash l (all-implies isLineByte notHash line-notHash l column-bytes),
         le-ltb 255 (length l) (omega (arith, column-length h)),
         column-trim,
-        spoken-full l column-full,
+        words-full l column-full,
         column-word,
         column-rest,
         le-ltb 64 (length w) (gw .short),

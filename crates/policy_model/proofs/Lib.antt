@@ -1,7 +1,7 @@
 pub mod Texts
 pub mod Bytes
 pub mod Columns
-pub mod Sayings
+pub mod LineReads
 pub mod PrintedPolicies
 pub mod ReadActions
 pub mod ReadPaths

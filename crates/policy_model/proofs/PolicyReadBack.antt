@@ -7,14 +7,16 @@ use lib.ListN.{length, length-append}
 use Rattle.text.specs.Text.{Text, bytes, isDigit, isUpper, isLower, isAlphanumeric, isBlank, notBlank, lowerByte, lower, same, isWord, isEmpty, run, rest}
 use Rattle.text.specs.Number.{worth, takeNumber}
 use Rattle.text.proofs.Laws.{clash}
+use Rattle.text.specs.Characters.{prepend, trimEnd, trim}
 use Rattle.er7.specs.Path.{notZero, takeIndex, takeOccurrence, takeStep, then, complete, readSubcomponent, readComponent, readRepetition, readField, isJoin, readSegment, readPath}
 use Rattle.er7_redact.specs.Action.{name, argument, verbWithArgument, verb, bare, readReplace, readMask, withoutPlus, whole, readCount, readArgument, readAction}
 use Rattle.er7_redact.specs.Policy.{Posture, accept, reject}
-use Rattle.refusal.specs.Refusal.{tooLong, isPlain}
-use Rattle.policy_model.specs.Policy.{Policy, start, head, withAction, sayReject, sayUnrecognised, withPath, sayRule, says, judged, spoken, prepend, trimEnd, trim, notCR, notHash, saysLine, push, policyLines, PolicyRead, read, refused, withRules, told, readLines, isPolicyText, readPolicy, stricter, merged, printPolicy}
+use Rattle.refusal.specs.Refusal.{tooLong, isPlain, noForeign, isAllowed}
+use Rattle.refusal.specs.Limits.{INPUT_MAX, RULES_MAX}
+use Rattle.policy_model.specs.Policy.{Policy, start, lineKind, withAction, readReject, readUnrecognised, withPath, readRule, readDirective, judged, readWords, notCR, notHash, readLine, push, policyLines, PolicyRead, read, refused, withRules, afterLine, readLines, readPolicy, stricter, merged, printPolicy}
 use Rattle.policy_model.specs.Builtin.{builtinText}
 use Rattle.policy_model.proofs.Texts.{every-append}
-use Rattle.policy_model.proofs.Sayings.{GoodPosture}
+use Rattle.policy_model.proofs.LineReads.{GoodPosture}
 use Rattle.policy_model.proofs.PrintedPolicies.{GoodPolicy, good-fits, good-back}
 use Rattle.policy_model.proofs.ReadPolicies.{GoodRead, read-good}
 
@@ -23,10 +25,10 @@ use Rattle.policy_model.proofs.ReadPolicies.{GoodRead, read-good}
 policy-good : (s : Text) (p : Policy) → readPolicy s ≡ read p → GoodPolicy p
 policy-good s p e = subst GoodRead e (read-good s)
 
-pub few-rules : (s : Text) (p : Policy) → readPolicy s ≡ read p → length (p .rules) ≤ 128
+pub few-rules : (s : Text) (p : Policy) → readPolicy s ≡ read p → length (p .rules) ≤ RULES_MAX
 few-rules s p e = policy-good s p e .few
 
-pub policy-fits : (s : Text) (p : Policy) → readPolicy s ≡ read p → length (printPolicy p) ≤ 32768
+pub policy-fits : (s : Text) (p : Policy) → readPolicy s ≡ read p → length (printPolicy p) ≤ INPUT_MAX
 policy-fits s p e = good-fits p (policy-good s p e)
 
 pub policy-read-back : (s : Text) (p : Policy) → readPolicy s ≡ read p → readPolicy (printPolicy p) ≡ read p
@@ -39,7 +41,7 @@ unfolding stricter
 stricter-good p accept g h = g
 stricter-good p (reject a) g h = h
 
-merged-good : (p q : Policy) → GoodPolicy p → GoodPolicy q → length (p .rules) + length (q .rules) ≤ 128 → GoodPolicy (merged p q)
+merged-good : (p q : Policy) → GoodPolicy p → GoodPolicy q → length (p .rules) + length (q .rules) ≤ RULES_MAX → GoodPolicy (merged p q)
 unfolding merged
 merged-good p q g h l = record {
   rules-good = every-append (p .rules) (q .rules) (g .rules-good) (h .rules-good);
@@ -48,11 +50,11 @@ merged-good p q g h l = record {
   unrecognised-good = h .unrecognised-good;
 }
 
-pub merged-fits : (s t : Text) (p q : Policy) → readPolicy s ≡ read p → readPolicy t ≡ read q → length (p .rules) + length (q .rules) ≤ 128
-    → length (printPolicy (merged p q)) ≤ 32768
+pub merged-fits : (s t : Text) (p q : Policy) → readPolicy s ≡ read p → readPolicy t ≡ read q → length (p .rules) + length (q .rules) ≤ RULES_MAX
+    → length (printPolicy (merged p q)) ≤ INPUT_MAX
 merged-fits s t p q e f l = good-fits (merged p q) (merged-good p q (policy-good s p e) (policy-good t q f) l)
 
-pub merged-read-back : (s t : Text) (p q : Policy) → readPolicy s ≡ read p → readPolicy t ≡ read q → length (p .rules) + length (q .rules) ≤ 128
+pub merged-read-back : (s t : Text) (p q : Policy) → readPolicy s ≡ read p → readPolicy t ≡ read q → length (p .rules) + length (q .rules) ≤ RULES_MAX
     → readPolicy (printPolicy (merged p q)) ≡ read (merged p q)
 merged-read-back s t p q e f l = good-back (merged p q) (merged-good p q (policy-good s p e) (policy-good t q f) l)
 
@@ -68,7 +70,7 @@ what-was-read (read p) e = (p, refl)
 what-was-read (refused x n) e = clash (sym e)
 
 builtin-is-read : (n : ℕ) → n ≤ 3 → isRead (readPolicy (builtinText n)) ≡ true
-unfolding bytes isDigit isUpper isLower isAlphanumeric isBlank notBlank lowerByte lower same isWord isEmpty run rest worth takeNumber notZero takeIndex takeOccurrence takeStep then complete readSubcomponent readComponent readRepetition readField isJoin readSegment readPath name argument verbWithArgument verb bare readReplace readMask withoutPlus whole readCount readArgument readAction tooLong isPlain start head withAction sayReject sayUnrecognised withPath sayRule says judged spoken prepend trimEnd trim notCR notHash saysLine push policyLines withRules told readLines isPolicyText readPolicy builtinText isRead
+unfolding bytes isDigit isUpper isLower isAlphanumeric isBlank notBlank lowerByte lower same isWord isEmpty run rest worth takeNumber notZero takeIndex takeOccurrence takeStep then complete readSubcomponent readComponent readRepetition readField isJoin readSegment readPath name argument verbWithArgument verb bare readReplace readMask withoutPlus whole readCount readArgument readAction tooLong isPlain start lineKind withAction readReject readUnrecognised withPath readRule readDirective judged readWords prepend trimEnd trim notCR notHash readLine push policyLines withRules afterLine readLines noForeign isAllowed readPolicy builtinText isRead
 builtin-is-read zero h = refl
 builtin-is-read (suc zero) h = refl
 builtin-is-read (suc (suc zero)) h = refl

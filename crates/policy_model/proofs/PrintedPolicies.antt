@@ -8,17 +8,20 @@ use borrow.Author.Tests.{lt-ltb, le-ltb}
 use lib.ListN.{length, length-append}
 use Rattle.text.specs.Text.{Text, run, rest, all}
 use Rattle.text.proofs.Laws.{and-left, and-right}
+use Rattle.text.specs.Characters.{trimEnd, trim}
 use Rattle.er7_redact.specs.Policy.{Rule}
-use Rattle.refusal.specs.Refusal.{tooLong, isPlain}
-use Rattle.policy_model.specs.Policy.{Policy, start, spoken, trimEnd, trim, saysLine, push, policyLines, read, withRules, told, readLines, isPolicyText, readPolicy, width, ruleLines, ruleBlock, defaultLines, joined, printPolicy}
+use Rattle.refusal.specs.Refusal.{tooLong, isPlain, noForeign, isAllowed}
+use Rattle.refusal.specs.declared.input.Input.the-variants as Inputs
+use Rattle.refusal.specs.Limits.{INPUT_MAX, RULES_MAX}
+use Rattle.policy_model.specs.Policy.{Policy, start, readWords, readLine, push, policyLines, read, withRules, afterLine, readLines, readPolicy, width, ruleLines, ruleBlock, defaultLines, joined, printPolicy}
 use Rattle.policy_model.proofs.Texts.{Every, none-left, one-more, every-append}
 use Rattle.policy_model.proofs.Bytes.{isLineByte, line-plain, line-notLF}
 use Rattle.policy_model.proofs.Columns.{GoodLine}
-use Rattle.policy_model.proofs.Sayings.{GoodRule, rule-says, rule-line, GoodPosture, posture-says, posture-line, GoodUnrecognised, unrecognised-says, unrecognised-line, sweep-says, sweep-line}
+use Rattle.policy_model.proofs.LineReads.{GoodRule, rule-reads, rule-line, GoodPosture, posture-reads, posture-line, GoodUnrecognised, unrecognised-reads, unrecognised-line, sweep-reads, sweep-line}
 
 pub record GoodPolicy (p : Policy) : Type 0 where
   pub rules-good : Every GoodRule (p .rules)
-  pub few : length (p .rules) ≤ 128
+  pub few : length (p .rules) ≤ RULES_MAX
   pub posture-good : GoodPosture (p .posture)
   pub unrecognised-good : GoodUnrecognised (p .unrecognised)
 
@@ -29,12 +32,12 @@ abbrev behindRules : ℕ → List Rule → ℕ
 behindRules n [] = n
 behindRules n (r ∷ rs) = behindRules (suc n) rs
 
-rules-back : (n k : ℕ) (p : Policy) (rs : List Rule) (ls : List Text) → Every GoodRule rs → k ≤ 64 → length (p .rules) + length rs ≤ 128
+rules-back : (n k : ℕ) (p : Policy) (rs : List Rule) (ls : List Text) → Every GoodRule rs → k ≤ 64 → length (p .rules) + length rs ≤ RULES_MAX
     → readLines n p (ruleLines k rs ++ ls) ≡ readLines (behindRules n rs) (withRules p (p .rules ++ rs)) ls
-unfolding readLines ruleLines told withRules
+unfolding readLines ruleLines afterLine withRules
 rules-back n k p [] ls none-left h l = rw append-nil
 rules-back n k p (r ∷ rs) ls (one-more g gs) h l =
-    rw (rule-says k r h g, lt-ltb (length (p .rules)) 128 (omega arith))
+    rw (rule-reads k r h g, lt-ltb (length (p .rules)) RULES_MAX (omega arith))
     (rules-back (suc n) k (withRules p (p .rules ++ (r ∷ []))) rs ls gs h (rw length-append (omega arith)) ∙ rw append-assoc)
 
 width-short : (rs : List Rule) → Every GoodRule rs → width rs ≤ 64
@@ -43,14 +46,14 @@ width-short [] none-left = omega arith
 width-short (r ∷ rs) (one-more g gs) = omega (arith, g .word-good .short, width-short rs gs)
 
 empty-line : (n : ℕ) (p : Policy) (ls : List Text) → readLines n p ([] ∷ ls) ≡ readLines (suc n) p ls
-unfolding readLines told saysLine spoken trim trimEnd run rest
+unfolding readLines afterLine readLine readWords trim trimEnd run rest
 empty-line n p ls = refl
 
 block-lines : (r : Rule) (rs : List Rule) (ls : List Text) → ruleBlock (r ∷ rs) ++ ls ≡ ruleLines (width (r ∷ rs)) (r ∷ rs) ++ ([] ∷ ls)
 unfolding ruleBlock
 block-lines r rs ls = append-assoc (ruleLines (width (r ∷ rs)) (r ∷ rs)) ([] ∷ []) ls
 
-block-back : (rs : List Rule) (ls : List Text) → Every GoodRule rs → length rs ≤ 128
+block-back : (rs : List Rule) (ls : List Text) → Every GoodRule rs → length rs ≤ RULES_MAX
     → (n : ℕ) × (readLines 1 start (ruleBlock rs ++ ls) ≡ readLines n (withRules start rs) ls)
 unfolding start withRules
 block-back [] ls g h = (1, unfold ruleBlock in refl)
@@ -62,8 +65,8 @@ block-back (r ∷ rs) ls g h = (
 )
 
 defaults-back : (n : ℕ) (p q : Policy) → GoodPosture (p .posture) → GoodUnrecognised (p .unrecognised) → readLines n (withRules q (p .rules)) (defaultLines p) ≡ read p
-unfolding readLines told defaultLines withRules
-defaults-back n p q g h = rw (posture-says (p .posture) g, unrecognised-says (p .unrecognised) h, sweep-says (p .sweep))
+unfolding readLines afterLine defaultLines withRules
+defaults-back n p q g h = rw (posture-reads (p .posture) g, unrecognised-reads (p .unrecognised) h, sweep-reads (p .sweep))
 
 lines-back : (p : Policy) → GoodPolicy p → readLines 1 start (ruleBlock (p .rules) ++ defaultLines p) ≡ read p
 lines-back p g =
@@ -82,14 +85,14 @@ unfolding joined
 joined-lines [] none-left = unfold policyLines in refl
 joined-lines (l ∷ ls) (one-more g gs) = line-then l (joined ls) (g .bytes-fit) ∙ ap (λ (ks : List Text). l ∷ ks) (joined-lines ls gs)
 
-text-then : (l s : Text) → all isLineByte l ≡ true → isPolicyText s ≡ true → isPolicyText (l ++ (0x0a ∷ s)) ≡ true
-unfolding isPolicyText all
+text-then : (l s : Text) → all isLineByte l ≡ true → noForeign Inputs.Policy s ≡ true → noForeign Inputs.Policy (l ++ (0x0a ∷ s)) ≡ true
+unfolding noForeign isAllowed all
 text-then [] s h k = unfold isPlain in k
 text-then (x ∷ l) s h k = rw (line-plain x (and-left (isLineByte x) (all isLineByte l) h)) (text-then l s (and-right (isLineByte x) (all isLineByte l) h) k)
 
-joined-text : (ls : List Text) → Every GoodLine ls → isPolicyText (joined ls) ≡ true
+joined-text : (ls : List Text) → Every GoodLine ls → noForeign Inputs.Policy (joined ls) ≡ true
 unfolding joined
-joined-text [] none-left = unfold isPolicyText in refl
+joined-text [] none-left = unfold noForeign isAllowed in refl
 joined-text (l ∷ ls) (one-more g gs) = text-then l (joined ls) (g .bytes-fit) (joined-text ls gs)
 
 joined-length : (ls : List Text) → Every GoodLine ls → length (joined ls) ≤ 147 * length ls
@@ -138,7 +141,7 @@ module _ (p : Policy) (g : GoodPolicy p) where
 
   -- ---- the laws
 
-  pub good-fits : length (printPolicy p) ≤ 32768
+  pub good-fits : length (printPolicy p) ≤ INPUT_MAX
   unfolding printPolicy
   good-fits = omega (arith, joined-length _ lines-good, lines-count)
 
@@ -146,4 +149,4 @@ module _ (p : Policy) (g : GoodPolicy p) where
   unfolding readPolicy printPolicy tooLong
   good-back =
       let ls : List Text = ruleBlock (p .rules) ++ defaultLines p in
-      rw (le-ltb 32768 (length (joined ls)) (unfold printPolicy in good-fits), joined-text ls lines-good, joined-lines ls lines-good) (lines-back p g)
+      rw (le-ltb INPUT_MAX (length (joined ls)) (unfold printPolicy in good-fits), joined-text ls lines-good, joined-lines ls lines-good) (lines-back p g)

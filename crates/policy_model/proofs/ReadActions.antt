@@ -20,7 +20,7 @@ use Rattle.policy_model.specs.Policy.{notHash}
 use Rattle.policy_model.proofs.Texts.{all-rest, full-append, stop-append, ends, ends-append, ends-rest, blank-between}
 use Rattle.policy_model.proofs.Bytes.{isLineByte, isWordByte, decimal-word}
 use Rattle.policy_model.proofs.Columns.{GoodWord, Trimmed, GoodRest, word-rest}
-use Rattle.policy_model.proofs.Sayings.{GoodAction}
+use Rattle.policy_model.proofs.LineReads.{GoodAction}
 
 -- what stands behind the first word
 pub behind-word : (s : Text) → Trimmed s → Trimmed (rest isBlank (rest notBlank s))

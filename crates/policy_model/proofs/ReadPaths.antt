@@ -17,7 +17,7 @@ use Rattle.er7.specs.Path.{Path, inBrackets, behind, printPath}
 use Rattle.er7.proofs.PrintedPaths.{brackets-none, brackets-some, behind-none, behind-some}
 use Rattle.er7.proofs.PathReadBack.{GoodPath, PathFrom}
 use Rattle.refusal.specs.Refusal.{isPlain}
-use Rattle.policy_model.specs.Policy.{path-head, head, notHash}
+use Rattle.policy_model.specs.Policy.{path-kind, lineKind, notHash}
 use Rattle.policy_model.proofs.Texts.{all-implies, full-append}
 use Rattle.policy_model.proofs.Bytes.{isLineByte, isWordByte, alphanumeric-word, decimal-word}
 use Rattle.policy_model.proofs.Columns.{GoodWord}
@@ -88,9 +88,9 @@ no-word s w h k = go (isWord s w) refl
     go true e = unfold isWord in clash (sym h ∙ sym (has-lower s) ∙ ap hasDigit (same-eq (lower s) w e) ∙ k)
     go false e = e
 
-digit-head : (s : Text) → hasDigit s ≡ true → head s ≡ path-head
-unfolding head bytes hasDigit isDigit
-digit-head s h = rw (
+digit-lineKind : (s : Text) → hasDigit s ≡ true → lineKind s ≡ path-kind
+unfolding lineKind bytes hasDigit isDigit
+digit-lineKind s h = rw (
   no-word s (bytes "accept") h refl,
   no-word s (bytes "reject") h refl,
   no-word s (bytes "unrecognised") h refl,
@@ -117,9 +117,9 @@ alone p g a b = rw (
   append-nil,
 )
 
-pub path-no-directive : (w : Text) (p : Path) → PathFrom w p → head w ≡ path-head → head (printPath p) ≡ path-head
+pub path-no-directive : (w : Text) (p : Path) → PathFrom w p → lineKind w ≡ path-kind → lineKind (printPath p) ≡ path-kind
 path-no-directive w p f h = zero-or (p .occurrence)
     (λ a. zero-or (p .field)
     (λ b. rw (alone p (f .good) a b, f .alone a b) h)
-    (λ z. digit-head (printPath p) (unfold printPath in digit-behind (p .segment) _ (digit-behind (inBrackets (p .occurrence)) _ (behind-digit 0x2d (p .field) _ z)))))
-    (λ z. digit-head (printPath p) (unfold printPath in digit-behind (p .segment) _ (brackets-digit (p .occurrence) _ z)))
+    (λ z. digit-lineKind (printPath p) (unfold printPath in digit-behind (p .segment) _ (digit-behind (inBrackets (p .occurrence)) _ (behind-digit 0x2d (p .field) _ z)))))
+    (λ z. digit-lineKind (printPath p) (unfold printPath in digit-behind (p .segment) _ (brackets-digit (p .occurrence) _ z)))

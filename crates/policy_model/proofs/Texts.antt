@@ -9,7 +9,8 @@ use lib.ListN.{length, replicate}
 use Rattle.text.specs.Text.{Text, isBlank, notBlank, isEmpty, run, rest, all}
 use Rattle.text.proofs.Laws.{and-left, and-right, and-true, by-cond, clash}
 use Rattle.text.proofs.Runs.{stop, run-rest, run-rest-length, stop-rest}
-use Rattle.policy_model.specs.Policy.{prepend, trimEnd}
+use Rattle.text.specs.Characters.{prepend, trimEnd}
+use Rattle.policy_model.specs.Policy.{}
 
 -- P holds of every element
 pub data Every {X : Type 0} (P : X → Type 0) : List X → Type 0 where

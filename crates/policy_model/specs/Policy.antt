@@ -1,24 +1,27 @@
 -- policy.rs: policies, how they are read, merged and printed. Assumes nothing: these are definitions.
-use mathlib.Core.Bool.{Bool, true, false, not, cond, _&&_, _||_}
+use mathlib.Core.Bool.{Bool, true, false, not, cond, _||_}
 use mathlib.Core.List.{List, [], _∷_, _++_}
 use mathlib.Core.Option.{Option, none, some}
 use Prim.Native.Nat.{ℕ, suc, _-_, max}
 use lib.ListN.{length, replicate}
 use lib.Dec.{eqb, ltb}
-use Rattle.text.specs.Text.{Text, bytes, isBlank, isWord, isEmpty, run, rest}
-use Rattle.text.specs.Characters.{skipBlanks, word, behindWord}
+use Rattle.text.specs.Text.{Text, bytes, isWord, isEmpty, run}
+use Rattle.text.specs.Characters.{skipBlanks, word, behindWord, trim}
 use Rattle.er7.specs.Path.{Path, readPath, printPath}
 use Rattle.er7_redact.specs.Action.{Action, ActionRead, is-action, no-action, replace, isKeep, isNullAction, readAction, printAction}
 use Rattle.er7_redact.specs.Policy.{Rule, Posture, accept, reject}
 use Rattle.refusal.specs.declared.Refusal.{Refusal}
 use Rattle.refusal.specs.declared.Refusal.the-variants.{TooLong, ForeignByte, TooMany, BadPath, BadDirective}
-use Rattle.refusal.specs.Refusal.{tooLong, isPlain}
+use Rattle.refusal.specs.Refusal.{tooLong, noForeign}
+use Rattle.refusal.specs.declared.input.Input.the-variants as Inputs
+use Rattle.refusal.specs.Limits.{RULES_MAX}
 
 -- what a payload gets: it passes, gets an action, or is refused
 pub data Unrecognised : Type 0 where
   pass refuse : Unrecognised
   apply : Action → Unrecognised
 
+-- the term "policy": its rules in their order, and what holds for the rest
 pub record Policy : Type 0 where
   pub rules : List Rule
   pub posture : Posture
@@ -39,91 +42,79 @@ applying a = cond (isKeep a || isNullAction a) pass (apply a)
 
 -- ---- what a line says
 
-pub data Saying : Type 0 where
-  nothing : Saying
-  rule : Rule → Saying
-  posture : Posture → Saying
-  unrecognised : Unrecognised → Saying
-  sweep : Bool → Saying
-  wrong : Refusal → Saying
+pub data LineRead : Type 0 where
+  nothing : LineRead
+  rule : Rule → LineRead
+  posture : Posture → LineRead
+  unrecognised : Unrecognised → LineRead
+  sweep : Bool → LineRead
+  wrong : Refusal → LineRead
 
 -- "The first word picks a directive (`accept`, `reject`, `unrecognised` or `unrecognized`, `known-values`, case ignored), else
 -- a path"; "first word `*`" is none of them
-pub data Head : Type 0 where
-  accept-head reject-head unrecognised-head known-values-head star-head path-head : Head
+pub data LineKind : Type 0 where
+  accept-kind reject-kind unrecognised-kind known-values-kind star-kind path-kind : LineKind
 
-unfoldable pub head : Text → Head
-head w =
-    cond (isWord w (bytes "accept")) accept-head
-    (cond (isWord w (bytes "reject")) reject-head
-    (cond (isWord w (bytes "unrecognised") || isWord w (bytes "unrecognized")) unrecognised-head
-    (cond (isWord w (bytes "known-values")) known-values-head
-    (cond (isWord w (bytes "*")) star-head path-head))))
+unfoldable pub lineKind : Text → LineKind
+lineKind w =
+    cond (isWord w (bytes "accept")) accept-kind
+    (cond (isWord w (bytes "reject")) reject-kind
+    (cond (isWord w (bytes "unrecognised") || isWord w (bytes "unrecognized")) unrecognised-kind
+    (cond (isWord w (bytes "known-values")) known-values-kind
+    (cond (isWord w (bytes "*")) star-kind path-kind))))
 
 -- "missing or unreadable, in a rule or directive"
-unfoldable pub withAction : ActionRead → (Action → Saying) → Saying
+unfoldable pub withAction : ActionRead → (Action → LineRead) → LineRead
 withAction (no-action e) f = wrong e
 withAction (is-action a) f = f a
 
 -- "argument to accept"
-unfoldable pub sayAccept : Text → Saying
-sayAccept s = cond (isEmpty s) (posture accept) (wrong BadDirective)
+unfoldable pub readAccept : Text → LineRead
+readAccept s = cond (isEmpty s) (posture accept) (wrong BadDirective)
 
 -- a bare `reject` writes REDACTED, as a bare `replace` does
-unfoldable pub sayReject : Text → Saying
-sayReject s =
+unfoldable pub readReject : Text → LineRead
+readReject s =
     cond (isEmpty s) (posture (reject (replace (bytes "REDACTED"))))
     (withAction (readAction s) λ a. posture (rejecting a))
 
 -- "unrecognised without one"
-unfoldable pub sayUnrecognised : Text → Saying
-sayUnrecognised s =
+unfoldable pub readUnrecognised : Text → LineRead
+readUnrecognised s =
     cond (isEmpty s) (wrong BadDirective)
     (cond (isWord s (bytes "refuse")) (unrecognised refuse)
     (cond (isWord s (bytes "pass")) (unrecognised pass)
     (withAction (readAction s) λ a. unrecognised (applying a))))
 
 -- "known-values neither on nor off"
-unfoldable pub sayKnownValues : Text → Saying
-sayKnownValues s = cond (isWord s (bytes "on")) (sweep true) (cond (isWord s (bytes "off")) (sweep false) (wrong BadDirective))
+unfoldable pub readKnownValues : Text → LineRead
+readKnownValues s = cond (isWord s (bytes "on")) (sweep true) (cond (isWord s (bytes "off")) (sweep false) (wrong BadDirective))
 
 -- "The action is judged before the path"
-unfoldable pub withPath : Action → Option Path → Saying
+unfoldable pub withPath : Action → Option Path → LineRead
 withPath a none = wrong BadPath
 withPath a (some p) = rule (record { path = p; action = a })
 
-unfoldable pub sayRule : Text → Text → Saying
-sayRule w s = withAction (readAction s) λ a. withPath a (readPath w)
+unfoldable pub readRule : Text → Text → LineRead
+readRule w s = withAction (readAction s) λ a. withPath a (readPath w)
 
 -- a line's first word and the rest
-unfoldable pub says : Head → Text → Text → Saying
-says accept-head w s = sayAccept s
-says reject-head w s = sayReject s
-says unrecognised-head w s = sayUnrecognised s
-says known-values-head w s = sayKnownValues s
-says star-head w s = wrong BadDirective
-says path-head w s = sayRule w s
+unfoldable pub readDirective : LineKind → Text → Text → LineRead
+readDirective accept-kind w s = readAccept s
+readDirective reject-kind w s = readReject s
+readDirective unrecognised-kind w s = readUnrecognised s
+readDirective known-values-kind w s = readKnownValues s
+readDirective star-kind w s = wrong BadDirective
+readDirective path-kind w s = readRule w s
 
 -- "first word over 64, rest over 80"
-unfoldable pub judged : Text → Text → Saying
-judged w s = cond (ltb 64 (length w) || ltb 80 (length s)) (wrong TooMany) (says (head w) w s)
+unfoldable pub judged : Text → Text → LineRead
+judged w s = cond (ltb 64 (length w) || ltb 80 (length s)) (wrong TooMany) (readDirective (lineKind w) w s)
 
 -- "word and rest are each taken without comment, outer blanks and tabs"
-unfoldable pub spoken : Text → Saying
-spoken [] = nothing
-spoken (x ∷ s) = judged (word (x ∷ s)) (skipBlanks (behindWord (x ∷ s)))
-
-unfoldable pub prepend : ℕ → Text → Text
-prepend x [] = cond (isBlank x) [] (x ∷ [])
-prepend x (y ∷ t) = x ∷ y ∷ t
-
--- without the blanks and tabs at the end, and at both ends
-unfoldable pub trimEnd : Text → Text
-trimEnd [] = []
-trimEnd (x ∷ s) = prepend x (trimEnd s)
-
-unfoldable pub trim : Text → Text
-trim s = trimEnd (skipBlanks s)
+unfoldable pub readWords : Text → LineRead
+readWords [] = nothing
+readWords (x ∷ s) = judged (word (x ∷ s)) (skipBlanks (behindWord (x ∷ s)))
 
 unfoldable pub notCR : ℕ → Bool
 notCR x = not (eqb x 0x0d)
@@ -132,8 +123,8 @@ unfoldable pub notHash : ℕ → Bool
 notHash x = not (eqb x 0x23)
 
 -- "`#` starts a comment"; "line over 255 bytes": "A line's length counts its comment and not its end"
-unfoldable pub saysLine : Text → Saying
-saysLine l = cond (ltb 255 (length (run notCR l))) (wrong TooMany) (spoken (trim (run notHash (run notCR l))))
+unfoldable pub readLine : Text → LineRead
+readLine l = cond (ltb 255 (length (run notCR l))) (wrong TooMany) (readWords (trim (run notHash (run notCR l))))
 
 -- ---- a whole policy
 
@@ -155,31 +146,22 @@ unfoldable pub withRules : Policy → List Rule → Policy
 withRules p rs = record { rules = rs; posture = p .posture; unrecognised = p .unrecognised; sweep = p .sweep }
 
 -- what line n says changes the policy, and reading goes on with it; "A later directive replaces an earlier one"; "128 rules pass"
-unfoldable pub told : ℕ → Policy → Saying → (Policy → PolicyRead) → PolicyRead
-told n p nothing f = f p
-told n p (rule r) f = cond (ltb (length (p .rules)) 128) (f (withRules p (p .rules ++ (r ∷ [])))) (refused TooMany n)
-told n p (posture x) f = f (record { rules = p .rules; posture = x; unrecognised = p .unrecognised; sweep = p .sweep })
-told n p (unrecognised x) f = f (record { rules = p .rules; posture = p .posture; unrecognised = x; sweep = p .sweep })
-told n p (sweep x) f = f (record { rules = p .rules; posture = p .posture; unrecognised = p .unrecognised; sweep = x })
-told n p (wrong e) f = refused e n
+unfoldable pub afterLine : ℕ → Policy → LineRead → (Policy → PolicyRead) → PolicyRead
+afterLine n p nothing f = f p
+afterLine n p (rule r) f = cond (ltb (length (p .rules)) RULES_MAX) (f (withRules p (p .rules ++ (r ∷ [])))) (refused TooMany n)
+afterLine n p (posture x) f = f (record { rules = p .rules; posture = x; unrecognised = p .unrecognised; sweep = p .sweep })
+afterLine n p (unrecognised x) f = f (record { rules = p .rules; posture = p .posture; unrecognised = x; sweep = p .sweep })
+afterLine n p (sweep x) f = f (record { rules = p .rules; posture = p .posture; unrecognised = p .unrecognised; sweep = x })
+afterLine n p (wrong e) f = refused e n
 
 -- "lines downward", from number n on
 unfoldable pub readLines : ℕ → Policy → List Text → PolicyRead
 readLines n p [] = read p
-readLines n p (l ∷ ls) = told n p (saysLine l) λ q. readLines (suc n) q ls
-
--- "0x09, 0x20 to 0x7E, and: .. LF, or CR directly before LF, in a policy"
-unfoldable pub beginsInLF : Text → Bool
-beginsInLF [] = false
-beginsInLF (x ∷ s) = eqb x 0x0a
-
-unfoldable pub isPolicyText : Text → Bool
-isPolicyText [] = true
-isPolicyText (x ∷ s) = (isPlain x || eqb x 0x0a || eqb x 0x0d && beginsInLF s) && isPolicyText s
+readLines n p (l ∷ ls) = afterLine n p (readLine l) λ q. readLines (suc n) q ls
 
 -- "2, 3, then lines downward"
 unfoldable pub readPolicy : Text → PolicyRead
-readPolicy s = cond (tooLong s) (refused TooLong 0) (cond (isPolicyText s) (readLines 1 start (policyLines s)) (refused ForeignByte 0))
+readPolicy s = cond (tooLong s) (refused TooLong 0) (cond (noForeign Inputs.Policy s) (readLines 1 start (policyLines s)) (refused ForeignByte 0))
 
 -- ---- "`append` takes the second posture if at least as strict, the second unrecognised, and the sweep if either has it"
 

@@ -23,16 +23,16 @@ use Rattle.policy.specs.declared.line.Unrecognised.the-variants as Held
 use Rattle.policy.specs.Line.{asUnrecognised}
 use Rattle.policy.specs.Policy.{asRules}
 use Rattle.policy.proofs.Rules.{behind, rules-step, rules-split}
-use Rattle.policy_print.specs.Display.{line, ruleText, rulesText, blankLine, unrecognisedLine, sweepLine}
+use Rattle.policy_print.specs.Display.{withLF, ruleText, rulesText, blankLine, unrecognisedLine, sweepLine}
 
 -- ---- a line that ends in what is printed
 
-reject-line : (a : Action) → line (postureLine (reject a)) ≡ bytes "reject        " ++ (printAction a ++ (0x0a ∷ []))
-unfolding line postureLine column gap bytes
+reject-line : (a : Action) → withLF (postureLine (reject a)) ≡ bytes "reject        " ++ (printAction a ++ (0x0a ∷ []))
+unfolding withLF postureLine column gap bytes
 reject-line a = refl
 
-unrecognised-line : (u : Unrecognised) → line (unrecognisedLine u) ≡ bytes "unrecognised  " ++ (unrecognisedText u ++ (0x0a ∷ []))
-unfolding line unrecognisedLine column gap bytes
+unrecognised-line : (u : Unrecognised) → withLF (unrecognisedLine u) ≡ bytes "unrecognised  " ++ (unrecognisedText u ++ (0x0a ∷ []))
+unfolding withLF unrecognisedLine column gap bytes
 unrecognised-line u = refl
 
 ended-length : (w s : Text) → length (w ++ (s ++ (0x0a ∷ []))) ≡ length w + (length s + 1)
@@ -44,41 +44,41 @@ pub wrote-ended : {d d₁ d₂ d₃ w s : Text} {at k l r : ℕ} → Wrote d at 
 wrote-ended f g h = wrote-then f (wrote-then g h)
 
 module _ (t : Text) (p : HeldPosture) {a : HeldAction} (e : p ≡ Postures.Reject a) where
-  rejects : line (postureLine (asPosture t p)) ≡ bytes "reject        " ++ (printAction (asAction t a) ++ (0x0a ∷ []))
+  rejects : withLF (postureLine (asPosture t p)) ≡ bytes "reject        " ++ (printAction (asAction t a) ++ (0x0a ∷ []))
   unfolding asPosture
   rejects = rw e (reject-line (asAction t a))
 
-  pub reject-room : length (line (postureLine (asPosture t p))) ≡ 14 + (length (printAction (asAction t a)) + 1)
+  pub reject-room : length (withLF (postureLine (asPosture t p))) ≡ 14 + (length (printAction (asAction t a)) + 1)
   unfolding bytes
   reject-room = ap length rejects ∙ ended-length (bytes "reject        ") (printAction (asAction t a))
 
   pub reject-wrote : {d d₁ d₂ d₃ : Text} {at k l r : ℕ} → Wrote d at (bytes "reject        ") d₁ k → Wrote d₁ k (printAction (asAction t a)) d₂ l
-      → Wrote d₂ l (0x0a ∷ []) d₃ r → Wrote d at (line (postureLine (asPosture t p))) d₃ r
+      → Wrote d₂ l (0x0a ∷ []) d₃ r → Wrote d at (withLF (postureLine (asPosture t p))) d₃ r
   reject-wrote f g h = rw rejects (wrote-ended f g h)
 
 module _ (t : Text) (p : HeldPosture) (e : p ≡ Postures.Accept) where
-  accepts : line (postureLine (asPosture t p)) ≡ bytes "accept\n"
-  unfolding asPosture postureLine line bytes
+  accepts : withLF (postureLine (asPosture t p)) ≡ bytes "accept\n"
+  unfolding asPosture postureLine withLF bytes
   accepts = rw e
 
-  pub accept-room : length (line (postureLine (asPosture t p))) ≡ 7
+  pub accept-room : length (withLF (postureLine (asPosture t p))) ≡ 7
   unfolding bytes
   accept-room = ap length accepts
 
-  pub accept-wrote : {d d′ : Text} {at r : ℕ} → Wrote d at (bytes "accept\n") d′ r → Wrote d at (line (postureLine (asPosture t p))) d′ r
+  pub accept-wrote : {d d′ : Text} {at r : ℕ} → Wrote d at (bytes "accept\n") d′ r → Wrote d at (withLF (postureLine (asPosture t p))) d′ r
   accept-wrote f = rw accepts f
 
 -- what a payload gets
 module _ (t : Text) (u : HeldUnrecognised) where
-  says-unrecognised : line (unrecognisedLine (asUnrecognised t u)) ≡ bytes "unrecognised  " ++ (unrecognisedText (asUnrecognised t u) ++ (0x0a ∷ []))
+  says-unrecognised : withLF (unrecognisedLine (asUnrecognised t u)) ≡ bytes "unrecognised  " ++ (unrecognisedText (asUnrecognised t u) ++ (0x0a ∷ []))
   says-unrecognised = unrecognised-line (asUnrecognised t u)
 
-  pub unrecognised-room : length (line (unrecognisedLine (asUnrecognised t u))) ≡ 14 + (length (unrecognisedText (asUnrecognised t u)) + 1)
+  pub unrecognised-room : length (withLF (unrecognisedLine (asUnrecognised t u))) ≡ 14 + (length (unrecognisedText (asUnrecognised t u)) + 1)
   unfolding bytes
   unrecognised-room = ap length says-unrecognised ∙ ended-length (bytes "unrecognised  ") (unrecognisedText (asUnrecognised t u))
 
   pub unrecognised-wrote : {d d₁ d₂ : Text} {at k r : ℕ} (s : Text) → unrecognisedText (asUnrecognised t u) ++ (0x0a ∷ []) ≡ s
-      → Wrote d at (bytes "unrecognised  ") d₁ k → Wrote d₁ k s d₂ r → Wrote d at (line (unrecognisedLine (asUnrecognised t u))) d₂ r
+      → Wrote d at (bytes "unrecognised  ") d₁ k → Wrote d₁ k s d₂ r → Wrote d at (withLF (unrecognisedLine (asUnrecognised t u))) d₂ r
   unrecognised-wrote s e f g = rw says-unrecognised (wrote-then f (rw e g))
 
   pub pass-text : u ≡ Held.Pass → unrecognisedText (asUnrecognised t u) ++ (0x0a ∷ []) ≡ bytes "pass\n"
@@ -94,19 +94,19 @@ module _ (t : Text) (u : HeldUnrecognised) where
   apply-text e = rw e
 
   -- the room for that text
-  pub text-room : (s : Text) → unrecognisedText (asUnrecognised t u) ++ (0x0a ∷ []) ≡ s → length (line (unrecognisedLine (asUnrecognised t u))) ≡ 14 + length s
+  pub text-room : (s : Text) → unrecognisedText (asUnrecognised t u) ++ (0x0a ∷ []) ≡ s → length (withLF (unrecognisedLine (asUnrecognised t u))) ≡ 14 + length s
   text-room s e = unrecognised-room ∙ rw (sym (length-append (unrecognisedText (asUnrecognised t u)) (0x0a ∷ [])) ∙ ap length e)
 
-  pub apply-room : {a : HeldAction} → u ≡ Held.Apply a → length (line (unrecognisedLine (asUnrecognised t u))) ≡ 14 + (length (printAction (asAction t a)) + 1)
+  pub apply-room : {a : HeldAction} → u ≡ Held.Apply a → length (withLF (unrecognisedLine (asUnrecognised t u))) ≡ 14 + (length (printAction (asAction t a)) + 1)
   apply-room {a} e = text-room (printAction (asAction t a) ++ (0x0a ∷ [])) (apply-text e) ∙ rw (length-append (printAction (asAction t a)) (0x0a ∷ []))
 
 -- whether the sweep is on
-pub on-line : line (sweepLine true) ≡ bytes "known-values  on\n"
-unfolding line sweepLine column gap sweepText bytes
+pub on-line : withLF (sweepLine true) ≡ bytes "known-values  on\n"
+unfolding withLF sweepLine column gap sweepText bytes
 on-line = refl
 
-pub off-line : line (sweepLine false) ≡ bytes "known-values  off\n"
-unfolding line sweepLine column gap sweepText bytes
+pub off-line : withLF (sweepLine false) ≡ bytes "known-values  off\n"
+unfolding withLF sweepLine column gap sweepText bytes
 off-line = refl
 
 -- the empty line
@@ -122,7 +122,7 @@ blank-some n e = rw (ne-eqb n 0 e)
 
 module _ (n : ℕ) (r : Rule) where
   rule-parts : ruleText n r ≡ printPath (r .path) ++ (replicate (n - length (printPath (r .path)) + 2) 0x20 ++ (printAction (r .action) ++ (0x0a ∷ [])))
-  unfolding ruleText line ruleLine column gap
+  unfolding ruleText withLF ruleLine column gap
   rule-parts = let e : n - length (printPath (r .path)) + 2 ≡ suc (suc (n - length (printPath (r .path)))) = omega arith in
       rw (e, append-assoc, append-assoc)
 
@@ -155,7 +155,7 @@ unfolding rulesText
 rules-append n xs ys = ap joined (lines-append n xs ys) ∙ joined-append (ruleLines n xs) (ruleLines n ys)
 
 rules-one : (n : ℕ) (r : Rule) → rulesText n (r ∷ []) ≡ ruleText n r
-unfolding rulesText ruleLines joined ruleText line
+unfolding rulesText ruleLines joined ruleText withLF
 rules-one n r = refl
 
 pub width-append : (xs ys : List Rule) → width (xs ++ ys) ≡ max (width xs) (width ys)

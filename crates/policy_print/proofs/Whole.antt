@@ -15,6 +15,7 @@ use Rattle.er7_redact.specs.declared.policy.Posture.the-variants as Postures
 use Rattle.er7_redact.specs.Policy.{Rule, Posture, asPosture}
 use Rattle.refusal.specs.declared.Refusal.{Refusal}
 use Rattle.refusal.specs.declared.Refusal.the-variants.{TooMany, NoSuchBuiltin}
+use Rattle.refusal.specs.Limits.{INPUT_MAX, RULES_MAX}
 use Rattle.policy_model.specs.Policy.{Policy, PolicyRead, read, refused, readPolicy, Unrecognised, width, postureLine, ruleBlock, defaultLines, joined, stricter, merged, printPolicy, ruleLines}
 use Rattle.policy_model.specs.Builtin.{builtinText}
 use Rattle.policy_model.proofs.PolicyReadBack.{merged-fits}
@@ -26,14 +27,14 @@ use Rattle.policy.specs.Policy.{asRules, asPolicy, asVerdict, asRead, PolicyHel
 use Rattle.policy.proofs.Reading.{rules-length}
 use Rattle.policy_print.specs.declared.print.Printed.{Printed}
 use Rattle.policy_print.specs.declared.print.Printed.the-variants.{Written, Refused}
-use Rattle.policy_print.specs.Display.{line, rulesText, blankLine, unrecognisedLine, sweepLine, defaultsText}
+use Rattle.policy_print.specs.Display.{withLF, rulesText, blankLine, unrecognisedLine, sweepLine, defaultsText}
 use Rattle.policy_print.specs.Print.{mergedRead, appended, builtinRead, printedOf, bufferOf, PrintedIs}
 use Rattle.policy_print.proofs.Parts.{joined-append, rules-append, width-append}
 
 -- ---- the parts of a printed policy
 
 defaults-parts : (p : Policy) → joined (defaultLines p) ≡ defaultsText (p .posture) (p .unrecognised) (p .sweep)
-unfolding joined defaultLines defaultsText line unrecognisedLine sweepLine
+unfolding joined defaultLines defaultsText withLF unrecognisedLine sweepLine
 defaults-parts p = rw (append-assoc, append-assoc)
 
 block-parts : (rs : List Rule) → joined (ruleBlock rs) ≡ rulesText (width rs) rs ++ blankLine (length rs)
@@ -52,12 +53,12 @@ three-lengths : (a b c : Text) → length (a ++ (b ++ c)) ≡ length a + (length
 three-lengths a b c = length-append a (b ++ c) ∙ rw (length-append b c)
 
 pub defaults-length : (p : Posture) (u : Unrecognised) (b : Bool)
-    → length (defaultsText p u b) ≡ length (line (postureLine p)) + (length (line (unrecognisedLine u)) + length (line (sweepLine b)))
+    → length (defaultsText p u b) ≡ length (withLF (postureLine p)) + (length (withLF (unrecognisedLine u)) + length (withLF (sweepLine b)))
 unfolding defaultsText
-defaults-length p u b = three-lengths (line (postureLine p)) (line (unrecognisedLine u)) (line (sweepLine b))
+defaults-length p u b = three-lengths (withLF (postureLine p)) (withLF (unrecognisedLine u)) (withLF (sweepLine b))
 
-pub defaults-wrote : (p : Posture) (u : Unrecognised) (b : Bool) {d d₁ d₂ d₃ : Text} {at k l r : ℕ} → Wrote d at (line (postureLine p)) d₁ k
-    → Wrote d₁ k (line (unrecognisedLine u)) d₂ l → Wrote d₂ l (line (sweepLine b)) d₃ r → Wrote d at (defaultsText p u b) d₃ r
+pub defaults-wrote : (p : Posture) (u : Unrecognised) (b : Bool) {d d₁ d₂ d₃ : Text} {at k l r : ℕ} → Wrote d at (withLF (postureLine p)) d₁ k
+    → Wrote d₁ k (withLF (unrecognisedLine u)) d₂ l → Wrote d₂ l (withLF (sweepLine b)) d₃ r → Wrote d at (defaultsText p u b) d₃ r
 unfolding defaultsText
 defaults-wrote p u b f g h = wrote-then f (wrote-then g h)
 
@@ -180,16 +181,16 @@ module _ (s t : Text) (p q : HeldPolicy) (g : PolicyHeld s p) (h : PolicyHeld t 
   unfolding asPolicy
   counts = rw (rules-length s (p .rules) (p .count) (omega (arith, g .long, g .few)), rules-length t (q .rules) (q .count) (omega (arith, h .long, h .few)))
 
-  pub many-merged : 128 < p .count + q .count → mergedRead (asPolicy s p) (asPolicy t q) ≡ refused TooMany 0
+  pub many-merged : RULES_MAX < p .count + q .count → mergedRead (asPolicy s p) (asPolicy t q) ≡ refused TooMany 0
   unfolding mergedRead
-  many-merged l = rw (counts, lt-ltb 128 (p .count + q .count) l)
+  many-merged l = rw (counts, lt-ltb RULES_MAX (p .count + q .count) l)
 
-  pub few-merged : p .count + q .count ≤ 128 → mergedRead (asPolicy s p) (asPolicy t q) ≡ read (merged (asPolicy s p) (asPolicy t q))
+  pub few-merged : p .count + q .count ≤ RULES_MAX → mergedRead (asPolicy s p) (asPolicy t q) ≡ read (merged (asPolicy s p) (asPolicy t q))
   unfolding mergedRead
-  few-merged l = rw (counts, le-ltb 128 (p .count + q .count) l)
+  few-merged l = rw (counts, le-ltb RULES_MAX (p .count + q .count) l)
 
-  pub merged-room : readPolicy s ≡ read (asPolicy s p) → readPolicy t ≡ read (asPolicy t q) → p .count + q .count ≤ 128
-      → length (printPolicy (merged (asPolicy s p) (asPolicy t q))) ≤ 32768
+  pub merged-room : readPolicy s ≡ read (asPolicy s p) → readPolicy t ≡ read (asPolicy t q) → p .count + q .count ≤ RULES_MAX
+      → length (printPolicy (merged (asPolicy s p) (asPolicy t q))) ≤ INPUT_MAX
   merged-room e f l = merged-fits s t (asPolicy s p) (asPolicy t q) e f (omega (arith, counts))
 
 pub both-widths : {n a b x y : ℕ} → n ≡ max a b → a ≡ x → b ≡ y → n ≡ max x y

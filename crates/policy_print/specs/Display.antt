@@ -7,11 +7,11 @@ use Rattle.text.specs.Text.{Text, bytes}
 use Rattle.er7_redact.specs.Policy.{Rule, Posture}
 use Rattle.policy_model.specs.Policy.{Unrecognised, column, ruleLine, ruleLines, postureLine, unrecognisedText, sweepText, joined}
 
-unfoldable pub line : Text → Text
-line l = l ++ (0x0a ∷ [])
+unfoldable pub withLF : Text → Text
+withLF l = l ++ (0x0a ∷ [])
 
 unfoldable pub ruleText : ℕ → Rule → Text
-ruleText n r = line (ruleLine n r)
+ruleText n r = withLF (ruleLine n r)
 
 unfoldable pub rulesText : ℕ → List Rule → Text
 rulesText n rs = joined (ruleLines n rs)
@@ -28,4 +28,4 @@ sweepLine b = column 12 (bytes "known-values") (sweepText b)
 
 -- the three default lines
 unfoldable pub defaultsText : Posture → Unrecognised → Bool → Text
-defaultsText p u b = line (postureLine p) ++ (line (unrecognisedLine u) ++ line (sweepLine b))
+defaultsText p u b = withLF (postureLine p) ++ (withLF (unrecognisedLine u) ++ withLF (sweepLine b))

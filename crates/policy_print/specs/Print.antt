@@ -6,6 +6,7 @@ use lib.ListN.{length}
 use lib.Dec.{ltb}
 use Rattle.text.specs.Text.{Text, put}
 use Rattle.refusal.specs.declared.Refusal.the-variants.{TooMany, NoSuchBuiltin}
+use Rattle.refusal.specs.Limits.{RULES_MAX}
 use Rattle.policy_model.specs.Policy.{Policy, PolicyRead, read, refused, readPolicy, merged, printPolicy}
 use Rattle.policy_model.specs.Builtin.{builtinText}
 use Rattle.policy_print.specs.declared.print.Printed.{Printed}
@@ -13,7 +14,7 @@ use Rattle.policy_print.specs.declared.print.Printed.the-variants.{Writt
 
 -- "each policy whole ..; the merged rule count": what two policies read as
 unfoldable pub mergedRead : Policy → Policy → PolicyRead
-mergedRead p q = cond (ltb 128 (length (p .rules) + length (q .rules))) (refused TooMany 0) (read (merged p q))
+mergedRead p q = cond (ltb RULES_MAX (length (p .rules) + length (q .rules))) (refused TooMany 0) (read (merged p q))
 
 unfoldable pub appended : PolicyRead → PolicyRead → PolicyRead
 appended (read p) (read q) = mergedRead p q

@@ -6,10 +6,11 @@ ghost use Prim.Native.Nat.{_≤_};
 ghost use lib.ListN.{length};
 ghost use Rattle.policy_model.specs.Builtin.{builtinText};
 ghost use Rattle.policy_print.specs.Print.{PrintedIs, builtinRead};
+ghost use Rattle.refusal.specs.Limits.{INPUT_MAX};
 
 // Prints a built-in policy to the front of out: `accept_all`, `reject_all`, `patient_identifiers`, `all_but_the_header`.
 pub fn builtin(number: u64, out: &mut [u8]) -> Printed
-    requires { ⌜ 32768 ≤ length (now out) ⌝ }
+    requires { ⌜ INPUT_MAX ≤ length (now out) ⌝ }
     ensures { λ r. ⌜ PrintedIs (builtinRead number) (now (out .entry)) (now (out .exit)) r ⌝ }
 {
     if 3 < number {

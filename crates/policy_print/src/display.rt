@@ -17,7 +17,7 @@ ghost use Rattle.er7_redact.specs.Policy.{asRule, asPosture};
 ghost use Rattle.policy_model.specs.Policy as M;
 ghost use Rattle.policy.specs.Line.{asUnrecognised, RuleHeld, PostureHeld, UnrecognisedHeld};
 ghost use Rattle.policy.specs.Policy.{asRules, PolicyHeld};
-ghost use Rattle.policy_print.specs.Display.{line, ruleText, rulesText, blankLine, unrecognisedLine, sweepLine};
+ghost use Rattle.policy_print.specs.Display.{withLF, ruleText, rulesText, blankLine, unrecognisedLine, sweepLine};
 
 // The greater of two numbers.
 pub fn greater(a: usize, b: usize) -> usize
@@ -88,8 +88,8 @@ pub fn put_blank(count: usize, out: &mut [u8], at: usize) -> usize
 
 // Writes the posture's line.
 pub fn put_posture(posture: Posture, text: &[u8], out: &mut [u8], at: usize) -> usize
-    requires { ⌜ PostureHeld (now text) posture × (at + length (line (M.postureLine (asPosture (now text) posture))) ≤ length (now out)) ⌝ }
-    ensures { λ r. ⌜ Wrote (now (out .entry)) at (line (M.postureLine (asPosture (now (text .entry)) posture))) (now (out .exit)) r ⌝ }
+    requires { ⌜ PostureHeld (now text) posture × (at + length (withLF (M.postureLine (asPosture (now text) posture))) ≤ length (now out)) ⌝ }
+    ensures { λ r. ⌜ Wrote (now (out .entry)) at (withLF (M.postureLine (asPosture (now (text .entry)) posture))) (now (out .exit)) r ⌝ }
 {
     match posture {
         Posture::Accept => copy_at(out, at, b"accept\n"),
@@ -103,8 +103,8 @@ pub fn put_posture(posture: Posture, text: &[u8], out: &mut [u8], at: usize) -> 
 
 // Writes the line that says what a payload gets.
 pub fn put_unrecognised(u: Unrecognised, text: &[u8], out: &mut [u8], at: usize) -> usize
-    requires { ⌜ UnrecognisedHeld (now text) u × (at + length (line (unrecognisedLine (asUnrecognised (now text) u))) ≤ length (now out)) ⌝ }
-    ensures { λ r. ⌜ Wrote (now (out .entry)) at (line (unrecognisedLine (asUnrecognised (now (text .entry)) u))) (now (out .exit)) r ⌝ }
+    requires { ⌜ UnrecognisedHeld (now text) u × (at + length (withLF (unrecognisedLine (asUnrecognised (now text) u))) ≤ length (now out)) ⌝ }
+    ensures { λ r. ⌜ Wrote (now (out .entry)) at (withLF (unrecognisedLine (asUnrecognised (now (text .entry)) u))) (now (out .exit)) r ⌝ }
 {
     let k = copy_at(out, at, b"unrecognised  ");
     match u {
@@ -119,8 +119,8 @@ pub fn put_unrecognised(u: Unrecognised, text: &[u8], out: &mut [u8], at: usize)
 
 // Writes the line that says whether the sweep is on.
 pub fn put_sweep(sweep: bool, out: &mut [u8], at: usize) -> usize
-    requires { ⌜ at + length (line (sweepLine sweep)) ≤ length (now out) ⌝ }
-    ensures { λ r. ⌜ Wrote (now (out .entry)) at (line (sweepLine sweep)) (now (out .exit)) r ⌝ }
+    requires { ⌜ at + length (withLF (sweepLine sweep)) ≤ length (now out) ⌝ }
+    ensures { λ r. ⌜ Wrote (now (out .entry)) at (withLF (sweepLine sweep)) (now (out .exit)) r ⌝ }
 {
     if sweep {
         return copy_at(out, at, b"known-values  on\n");

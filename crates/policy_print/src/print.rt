@@ -12,6 +12,7 @@ use policy::policy::Policy;
 use policy::policy::Verdict;
 use policy::policy::parse;
 use refusal::Refusal;
+use refusal::limits::RULES_MAX;
 ghost use mathlib.Core.Path.{_≡_};
 ghost use Prim.Native.Nat.{_+_, _≤_};
 ghost use lib.ListN.{length};
@@ -22,6 +23,7 @@ ghost use Rattle.policy.specs.Line.{asUnrecognised, PostureHeld, UnrecognisedHe
 ghost use Rattle.policy.specs.Policy.{asPolicy, PolicyHeld};
 ghost use Rattle.policy_print.specs.Display.{defaultsText};
 ghost use Rattle.policy_print.specs.Print.{PrintedIs, appended, mergedRead};
+ghost use Rattle.refusal.specs.Limits.{INPUT_MAX};
 
 // The length of the text that was written, or a refusal with its line.
 pub enum Printed {
@@ -97,7 +99,7 @@ fn print_merged(p: Policy, s: &[u8], q: Policy, t: &[u8], out: &mut [u8], at: us
 
 // Reads a policy and prints it to the front of out.
 pub fn print_text(text: &[u8], out: &mut [u8]) -> Printed
-    requires { ⌜ 32768 ≤ length (now out) ⌝ }
+    requires { ⌜ INPUT_MAX ≤ length (now out) ⌝ }
     ensures { λ r. ⌜ PrintedIs (readPolicy (now (text .entry))) (now (out .entry)) (now (out .exit)) r ⌝ }
 {
     let parsed = parse(text);
@@ -111,10 +113,10 @@ pub fn print_text(text: &[u8], out: &mut [u8]) -> Printed
 
 // Prints the merged policy of p and q to the front of out, unless it has too many rules.
 fn print_both(p: Policy, s: &[u8], q: Policy, t: &[u8], out: &mut [u8]) -> Printed
-    requires { ⌜ (32768 ≤ length (now out)) × PolicyHeld (now s) p × PolicyHeld (now t) q × (readPolicy (now s) ≡ read (asPolicy (now s) p)) × (readPolicy (now t) ≡ read (asPolicy (now t) q)) ⌝ }
+    requires { ⌜ (INPUT_MAX ≤ length (now out)) × PolicyHeld (now s) p × PolicyHeld (now t) q × (readPolicy (now s) ≡ read (asPolicy (now s) p)) × (readPolicy (now t) ≡ read (asPolicy (now t) q)) ⌝ }
     ensures { λ r. ⌜ PrintedIs (mergedRead (asPolicy (now (s .entry)) p) (asPolicy (now (t .entry)) q)) (now (out .entry)) (now (out .exit)) r ⌝ }
 {
-    if 128 < p.count + q.count {
+    if RULES_MAX < p.count + q.count {
         return Printed::Refused(Refusal::TooMany, 0);
     }
     Printed::Written(print_merged(p, s, q, t, out, 0))
@@ -122,7 +124,7 @@ fn print_both(p: Policy, s: &[u8], q: Policy, t: &[u8], out: &mut [u8]) -> Print
 
 // Reads the second policy and prints the two merged.
 fn append_to(p: Policy, s: &[u8], t: &[u8], out: &mut [u8]) -> Printed
-    requires { ⌜ (32768 ≤ length (now out)) × PolicyHeld (now s) p × (readPolicy (now s) ≡ read (asPolicy (now s) p)) ⌝ }
+    requires { ⌜ (INPUT_MAX ≤ length (now out)) × PolicyHeld (now s) p × (readPolicy (now s) ≡ read (asPolicy (now s) p)) ⌝ }
     ensures { λ r. ⌜ PrintedIs (appended (readPolicy (now (s .entry))) (readPolicy (now (t .entry)))) (now (out .entry)) (now (out .exit)) r ⌝ }
 {
     let parsed = parse(t);
@@ -136,7 +138,7 @@ fn append_to(p: Policy, s: &[u8], t: &[u8], out: &mut [u8]) -> Printed
 
 // Reads two policies and prints them merged to the front of out.
 pub fn append(s: &[u8], t: &[u8], out: &mut [u8]) -> Printed
-    requires { ⌜ 32768 ≤ length (now out) ⌝ }
+    requires { ⌜ INPUT_MAX ≤ length (now out) ⌝ }
     ensures { λ r. ⌜ PrintedIs (appended (readPolicy (now (s .entry))) (readPolicy (now (t .entry)))) (now (out .entry)) (now (out .exit)) r ⌝ }
 {
     let parsed = parse(s);

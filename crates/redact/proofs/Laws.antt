@@ -14,6 +14,7 @@ use Rattle.text.proofs.Writes.{wrote-length}
 use Rattle.refusal.specs.Refusal.{tooLong}
 use Rattle.refusal.specs.declared.Refusal.{Refusal}
 use Rattle.refusal.specs.declared.Refusal.the-variants.{TooLong, ReportTooLong}
+use Rattle.refusal.specs.Limits.{INPUT_MAX, LEAVES_MAX, TEXT_MAX}
 use Rattle.message_model.specs.Message.{messageOf, messageFault}
 use Rattle.message_model.proofs.Faultless.{faultless}
 use Rattle.message_model.proofs.PrintBack.{message-prints}
@@ -27,7 +28,7 @@ use Rattle.run_model.proofs.Chains.{message-fields-first}
 use Rattle.run_model.proofs.Sizes.{redacted-fits}
 use Rattle.er7_table.specs.Filling.{LeafRoom}
 use Rattle.er7_message.specs.Parsed.{faultOf, ParsedAs}
-use Rattle.er7_message.specs.declared.message.Counts.{Counts}
+use Rattle.er7_message.specs.declared.message.Layout.{Layout}
 use Rattle.er7_message.specs.declared.message.ParsedMessage.{ParsedMessage}
 use Rattle.er7_message.specs.declared.message.ParsedMessage.the-variants as Parsed
 use Rattle.er7_render.proofs.PrintBack.{parsed-named}
@@ -50,18 +51,18 @@ wrote-taken {d} {d′} {w} {n} p = let e : n ≡ length w = omega (arith, p .end
 -- ---- the message's tables
 
 -- a message without fault is short
-not-long : (t : Text) → messageFault t ≡ none → length t ≤ 32768
+not-long : (t : Text) → messageFault t ≡ none → length t ≤ INPUT_MAX
 unfolding tooLong
-not-long t e = ltb-false 32768 (length t) (faultless t e .not-too-long)
+not-long t e = ltb-false INPUT_MAX (length t) (faultless t e .not-too-long)
 
 module _ {message : Text} {segs cells : List ℕ} {a : ParsedMessage} (p : ParsedAs message (messageFault message) (messageOf message) segs cells a) where
-  pub no-fault : {counts : Counts} → a ≡ Parsed.Read counts → messageFault message ≡ none
+  pub no-fault : {layout : Layout} → a ≡ Parsed.Read layout → messageFault message ≡ none
   unfolding faultOf
   no-fault e = sym (p .is) ∙ rw e
 
-  pub parsed-loaded : {counts : Counts} {policy : Text} → a ≡ Parsed.Read counts → length policy ≤ 32768 → Loaded message (messageOf message) policy (length message) counts segs cells
-  parsed-loaded {counts} {policy} e h =
-      let q : ParsedAs message (messageFault message) (messageOf message) segs cells (Parsed.Read counts) = rw e at p in
+  pub parsed-loaded : {layout : Layout} {policy : Text} → a ≡ Parsed.Read layout → length policy ≤ INPUT_MAX → Loaded message (messageOf message) policy (length message) layout segs cells
+  parsed-loaded {layout} {policy} e h =
+      let q : ParsedAs message (messageFault message) (messageOf message) segs cells (Parsed.Read layout) = rw e at p in
       let f = no-fault e in
       record {
         standing = q .tables;
@@ -74,7 +75,7 @@ module _ {message : Text} {segs cells : List ℕ} {a : ParsedMessage} (p : Parse
         most = omega (arith, not-long message f);
       }
 
-  pub any-loaded : {counts : Counts} {policy : Text} → a ≡ Parsed.Read counts → length policy ≤ 32768 → AnyLoaded message policy (length message) counts segs cells
+  pub any-loaded : {layout : Layout} {policy : Text} → a ≡ Parsed.Read layout → length policy ≤ INPUT_MAX → AnyLoaded message policy (length message) layout segs cells
   any-loaded e h = record { message = messageOf message; loaded = parsed-loaded e h }
 
   pub message-refused : {x : Refusal} {output report : Text} → a ≡ Parsed.Refused x → (y : Answer Redaction) → AnsweredAs (withoutFault (messageFault message) y) output report (Refused x 0)
@@ -103,7 +104,7 @@ module _ (key : ℕ) (P : Policy) (message : Text) (f : messageFault message ≡
     unfolding withoutFault reported
     report-full b h = record { out = rw (f, ← alone key P message f, left .is, ← left .reported .long, lt-ltb b k h) }
 
-    pub run-done : (b : ℕ) → 49152 ≤ length output → b ≡ length report′ → k ≤ length report′
+    pub run-done : (b : ℕ) → TEXT_MAX ≤ length output → b ≡ length report′ → k ≤ length report′
         → AnsweredAs (withoutFault (messageFault message) (reported b (redact key P (messageOf message)))) output′ report′ (Whole n k m)
     run-done b wide long fits =
         record {
@@ -118,7 +119,7 @@ module _ (key : ℕ) (P : Policy) (message : Text) (f : messageFault message ≡
           };
         }
       where
-        short : length (left .text) ≤ 49152
+        short : length (left .text) ≤ TEXT_MAX
         short = redacted-fits key P message f (left .text) (left .rows) (sym (alone key P message f) ∙ left .is)
 
         wrote : Wrote output 0 (left .text) output′ n
@@ -130,17 +131,17 @@ module _ (key : ℕ) (P : Policy) (message : Text) (f : messageFault message ≡
 -- ---- the policy
 
 -- one that was read is not too long
-pub read-not-long : (t : Text) (p : Policy) → readPolicy t ≡ read p → length t ≤ 32768
+pub read-not-long : (t : Text) (p : Policy) → readPolicy t ≡ read p → length t ≤ INPUT_MAX
 unfolding readPolicy tooLong
-read-not-long t p e = go (ltb 32768 (length t)) refl _ e
+read-not-long t p e = go (ltb INPUT_MAX (length t)) refl _ e
   where
     is-read : PolicyRead → Bool
     is-read (read q) = true
     is-read (Q.refused x n) = false
 
-    go : (b : Bool) → ltb 32768 (length t) ≡ b → (o : PolicyRead) → cond b (Q.refused TooLong 0) o ≡ read p → length t ≤ 32768
+    go : (b : Bool) → ltb INPUT_MAX (length t) ≡ b → (o : PolicyRead) → cond b (Q.refused TooLong 0) o ≡ read p → length t ≤ INPUT_MAX
     go true q o h = clash (sym (ap is-read h))
-    go false q o h = ltb-false 32768 (length t) q
+    go false q o h = ltb-false INPUT_MAX (length t) q
 
 module _ (o : PolicyRead) (f : Policy → Answer Redaction) where
   pub policy-refused : {x : Refusal} {n : ℕ} {output report : Text} → o ≡ Q.refused x n → AnsweredAs (withPolicy o f) output report (Refused x n)
@@ -181,5 +182,5 @@ pub short-room : (cells : List ℕ) (m : ℕ) → m * 8 ≤ length cells → Lea
 short-room cells m h = record { room = λ i a b. omega arith }
 
 -- or for 4096
-pub full-room : (cells : List ℕ) (m : ℕ) → 4096 * 8 ≤ length cells → LeafRoom cells m
+pub full-room : (cells : List ℕ) (m : ℕ) → LEAVES_MAX * 8 ≤ length cells → LeafRoom cells m
 full-room cells m h = record { room = λ i a b. omega arith }

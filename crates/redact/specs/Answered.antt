@@ -1,10 +1,9 @@
 -- What the contracts of private functions cite; no public contract rests on it. Assumes nothing: these are definitions.
 use mathlib.Core.Path.{_≡_}
-use mathlib.Core.List.{List}
 use Prim.Native.Nat.{ℕ, _≤_}
 use lib.ListN.{length, take}
 use Rattle.text.specs.Text.{Text}
-use Rattle.run_model.specs.Redact.{Row, printRows}
+use Rattle.run_model.specs.Redact.{printRows}
 use Rattle.run_model.specs.Entries as Model
 use Rattle.redact.specs.declared.redact.Answer.{Answer}
 use Rattle.redact.specs.declared.redact.Answer.the-variants.{Redacted, Refused}

@@ -11,6 +11,7 @@ use policy::policy::parse;
 use redact_1_run::core::Redacted;
 use redact_1_run::core::redact_from;
 use refusal::Refusal;
+use refusal::limits::LEAVES_MAX;
 ghost use mathlib.Core.Path.{_≡_};
 ghost use Prim.Native.Nat.{ℕ, _≤_};
 ghost use lib.ListN.{length};
@@ -22,6 +23,7 @@ ghost use Rattle.run_model.specs.Entries.{withPolicy, withoutFault, reported, r
 ghost use Rattle.er7_table.specs.Filling.{LeafRoom};
 ghost use Rattle.entries.specs.Returned.{lentReport, asRedactOutcome};
 ghost use Rattle.redact.specs.Answered.{AnsweredAs};
+ghost use Rattle.refusal.specs.Limits.{INPUT_MAX, TEXT_MAX};
 
 // The lengths of the text and of the report, and how many rows it has; or a refusal with its line.
 pub enum Answer {
@@ -44,16 +46,16 @@ fn redact_in(
     output: &mut [u8],
     report: &mut [u8],
 ) -> Answer
-    requires { ⌜ PolicyHeld (now text) policy × (length (now text) ≤ 32768) × LeafRoom (now cells) (length (now message)) × (49152 ≤ length (now output)) ⌝ }
+    requires { ⌜ PolicyHeld (now text) policy × (length (now text) ≤ INPUT_MAX) × LeafRoom (now cells) (length (now message)) × (TEXT_MAX ≤ length (now output)) ⌝ }
     ensures { λ r. ⌜ AnsweredAs (withoutFault (messageFault (now (message .entry))) (reported (length (now (report .entry))) (Redact.redact key (asPolicy (now (text .entry)) policy) (messageOf (now (message .entry)))))) (now (output .exit)) (now (report .exit)) r ⌝ }
 {
     match message::parse(message, segs, cells) {
-        ParsedMessage::Read(counts) => match redact_from(
+        ParsedMessage::Read(layout) => match redact_from(
             policy,
             text,
             key,
             message,
-            counts,
+            layout,
             message.len(),
             segs,
             cells,
@@ -89,7 +91,7 @@ fn redact_message(
     output: &mut [u8],
     report: &mut [u8],
 ) -> Answer
-    requires { ⌜ PolicyHeld (now text) policy × (length (now text) ≤ 32768) × (49152 ≤ length (now output)) ⌝ }
+    requires { ⌜ PolicyHeld (now text) policy × (length (now text) ≤ INPUT_MAX) × (TEXT_MAX ≤ length (now output)) ⌝ }
     ensures { λ r. ⌜ AnsweredAs (withoutFault (messageFault (now (message .entry))) (reported (length (now (report .entry))) (Redact.redact key (asPolicy (now (text .entry)) policy) (messageOf (now (message .entry)))))) (now (output .exit)) (now (report .exit)) r ⌝ }
 {
     let mut segs = [0usize; 2056];
@@ -106,7 +108,7 @@ fn redact_message(
             report,
         );
     }
-    let mut cells = [0usize; 32768];
+    let mut cells = [0usize; LEAVES_MAX * 8];
     redact_in(
         message,
         policy,
@@ -127,7 +129,7 @@ fn redact_by(
     output: &mut [u8],
     report: &mut [u8],
 ) -> Answer
-    requires { ⌜ 49152 ≤ length (now output) ⌝ }
+    requires { ⌜ TEXT_MAX ≤ length (now output) ⌝ }
     ensures { λ r. ⌜ AnsweredAs (withPolicy (readPolicy (now (policy .entry))) λ P. withoutFault (messageFault (now (message .entry))) (reported (length (now (report .entry))) (Redact.redact key P (messageOf (now (message .entry)))))) (now (output .exit)) (now (report .exit)) r ⌝ }
 {
     let parsed = parse(policy);

@@ -11,6 +11,7 @@ use lib.ListN.{getD}
 use Rattle.text.specs.Text.{Text}
 use Rattle.text.proofs.Laws.{split}
 use Rattle.refusal.specs.declared.Refusal.{Refusal}
+use Rattle.refusal.specs.Limits.{LEAVES_MAX}
 use Rattle.er7.specs.declared.separators.Separators.{Separators}
 use Rattle.er7_redact.specs.Action.{Action}
 use Rattle.er7_redact.specs.declared.policy.Rule.{Rule as HeldRule}
@@ -19,7 +20,7 @@ use Rattle.message_model.specs.Value.{isEmptyOrNull}
 use Rattle.policy_model.specs.Policy.{Policy}
 use Rattle.policy.specs.Policy.{asPolicy, PolicyHeld}
 use Rattle.policy.specs.declared.policy.Policy.{Policy as HeldPolicy}
-use Rattle.run_model.specs.Redact.{Book, stopped, knownIn, bookAll, overLeaves, overSegments, leavesEvents, segmentsEvents, firstFound, forSweep}
+use Rattle.run_model.specs.Redact.{Progress, stopped, knownIn, afterEvents, overLeaves, overSegments, leavesEvents, segmentsEvents, firstFound, forSweep}
 use Rattle.run_model.proofs.Chains.{cond-both}
 use Rattle.redact_5_act.specs.Known.{knownFrom}
 use Rattle.redact_5_act.specs.declared.state.Setting.{Setting}
@@ -37,10 +38,10 @@ use Rattle.redact_2_turn.specs.declared.turn.Aim.{Aim}
 use Rattle.redact_2_turn.specs.declared.turn.Job.{Job}
 use Rattle.redact_2_turn.proofs.Still.{Still, unpicked}
 use Rattle.redact_2_turn.proofs.Turns.{leaves-same, leaves-silent}
-use Rattle.redact_1_run.specs.Turns.{Task, tasksOf, passFor, segmentsBy, bookBy, afterTasks, bookTasks, TurnIs, turnOfSweep, ruleRow}
-use Rattle.redact_1_run.specs.Stage.{Stands, PoisedOr, Begun, Inputs, NextIs}
-use Rattle.redact_1_run.proofs.Stages.{Sound, turn-sound, book-knows, stands-next, stands-poised, stands-later}
-use Rattle.redact_1_run.proofs.Tasks.{task-after, task-book, FirstTasks, taskAt, task-rule, task-posture, task-sweep, first-none, first-more}
+use Rattle.redact_1_run.specs.Turns.{Task, tasksOf, passFor, segmentsBy, progressBy, afterTasks, progressTasks, TurnIs, turnOfSweep, ruleRow}
+use Rattle.redact_1_run.specs.Stage.{Stands, TurnReadyOr, Begun, Inputs, NextIs}
+use Rattle.redact_1_run.proofs.Stages.{Sound, turn-sound, progress-knows, stands-next, stands-turn-ready, stands-later}
+use Rattle.redact_1_run.proofs.Tasks.{task-after, task-progress, FirstTasks, taskAt, task-rule, task-posture, task-sweep, first-none, first-more}
 use Rattle.redact_1_run.proofs.Steps.{row-low}
 
 -- ---- passes that do the same
@@ -126,34 +127,34 @@ turn-held {text} {policy} p {k} i e z d turn t =
 pub job-held : {text : Text} {on : Setting} {segs : List ℕ} → Inputs text segs on → (turn : Turn) (aim : Aim) → TurnHeld text turn → aim ≡ aimOf text turn → JobHeld text (record { on = on; turn = turn; aim = aim })
 job-held l turn aim h e = record { held = h; aim = e; policy = l .policy }
 
-module _ (text : Text) (segs : List ℕ) (on : Setting) (policy : HeldPolicy) (q : on .sweep ≡ policy .sweep) (few : on .leaves ≤ 4096) where
+module _ (text : Text) (segs : List ℕ) (on : Setting) (policy : HeldPolicy) (q : on .sweep ≡ policy .sweep) (few : on .leaves ≤ LEAVES_MAX) where
   abbrev P : Policy
   P = asPolicy text policy
 
-  same-book : {Q W : Pass} {ss : List Segment} (b : Book) → Alike Q W ss → bookAll (on .sweep) (segmentsEvents (Q .says) ss) b ≡ bookBy P W ss b
-  unfolding bookBy asPolicy
-  same-book b a = rw (q, a .says)
+  same-progress : {Q W : Pass} {ss : List Segment} (b : Progress) → Alike Q W ss → afterEvents (on .sweep) (segmentsEvents (Q .says) ss) b ≡ progressBy P W ss b
+  unfolding progressBy asPolicy
+  same-progress b a = rw (q, a .says)
 
   same-segments : {Q W : Pass} {ss : List Segment} → Alike Q W ss → overSegments (Q .leaf) ss ≡ segmentsBy W ss
   unfolding segmentsBy
   same-segments a = a .leaf
 
-  refused-stays : (W : Pass) (ss : List Segment) {b : Book} {e : Refusal} → b ≡ stopped e → bookBy P W ss b ≡ stopped e
-  unfolding bookBy
+  refused-stays : (W : Pass) (ss : List Segment) {b : Progress} {e : Refusal} → b ≡ stopped e → progressBy P W ss b ≡ stopped e
+  unfolding progressBy
   refused-stays W ss {b} {e} f = rw f (stopped-stays (P .sweep) (segmentsEvents (W .says) ss) e)
 
-  -- the pass of turn k, by what the book knows
-  abbrev taskPass : ℕ → HeldRule → Book → Pass
+  -- the pass of turn k, by what the progress knows
+  abbrev taskPass : ℕ → HeldRule → Progress → Pass
   taskPass k rule b = passFor (on .key) (on .separators) P (taskAt text policy k rule) (knownIn b)
 
-  module _ {x : ℕ} {cr : Bool} {k : ℕ} {ss : List Segment} {b : Book} {β β′ : Buffers} (rule : HeldRule) (turn : Turn) (aim : Aim) where
+  module _ {x : ℕ} {cr : Bool} {k : ℕ} {ss : List Segment} {b : Progress} {β β′ : Buffers} (rule : HeldRule) (turn : Turn) (aim : Aim) where
     pub turn-stands : (d : Done) → TurnIs k (policy .count) rule (policy .posture) d turn → Stands x cr text segs on k ss b β d → (r : Done)
-        → NextIs (passBy text (record { on = on; turn = turn; aim = aim })) on text segs β d β′ r → Stands x cr text segs on (k + 1) (segmentsBy (taskPass k rule b) ss) (bookBy P (taskPass k rule b) ss b) β′ r
+        → NextIs (passBy text (record { on = on; turn = turn; aim = aim })) on text segs β d β′ r → Stands x cr text segs on (k + 1) (segmentsBy (taskPass k rule b) ss) (progressBy P (taskPass k rule b) ss b) β′ r
     turn-stands (Going c) t g r n =
         let job : Job = record { on = on; turn = turn; aim = aim } in
         let o : Sound (on .separators) cr (passBy text job (knowing text β c)) = unfold passBy in turn-sound (on .key) (on .separators) cr text (knowing text β c) turn in
-        let a : Alike (passBy text job (knowing text β c)) (taskPass k rule b) ss = rw (← book-knows (g .out)) (unfold passBy in turn-alike text policy (on .key) (on .separators) β c ss rule t) in
-        rw (same-segments a, same-book b a) at (stands-next (g .out) (passBy text job) o few r (n .out))
+        let a : Alike (passBy text job (knowing text β c)) (taskPass k rule b) ss = rw (← progress-knows (g .out)) (unfold passBy in turn-alike text policy (on .key) (on .separators) β c ss rule t) in
+        rw (same-segments a, same-progress b a) at (stands-next (g .out) (passBy text job) o few r (n .out))
     turn-stands (Stopped e) t g r n = rw (n .out) (record { out = refused-stays (taskPass k rule b) ss (g .out) })
 
 -- ---- k turns are taken
@@ -162,17 +163,17 @@ pub record TurnsTo (text : Text) (segs : List ℕ) (on : Setting) (policy : Held
   pub high : k ≤ policy .count + 2
   pub tasks : List Task
   pub first : FirstTasks text policy k tasks
-  pub to : (x : ℕ) (cr : Bool) (ss : List Segment) (b : Book) → Stands x cr text segs on 0 ss b β₀ r₀
-      → Stands x cr text segs on k (afterTasks (on .key) (on .separators) (asPolicy text policy) tasks ss b) (bookTasks (on .key) (on .separators) (asPolicy text policy) tasks ss b) β r
+  pub to : (x : ℕ) (cr : Bool) (ss : List Segment) (b : Progress) → Stands x cr text segs on 0 ss b β₀ r₀
+      → Stands x cr text segs on k (afterTasks (on .key) (on .separators) (asPolicy text policy) tasks ss b) (progressTasks (on .key) (on .separators) (asPolicy text policy) tasks ss b) β r
 
 module _ (text : Text) (segs : List ℕ) (on : Setting) (policy : HeldPolicy) (p : PolicyHeld text policy) (β₀ : Buffers) (r₀ : Done) where
   pub turns-start : TurnsTo text segs on policy β₀ r₀ 0 β₀ r₀
-  unfolding afterTasks bookTasks
+  unfolding afterTasks progressTasks
   turns-start = record { high = omega arith; tasks = []; first = first-none text policy; to = λ x cr ss b g. g }
 
   module _ (k : ℕ) (β : Buffers) (r : Done) (w : TurnsTo text segs on policy β₀ r₀ k β r) where
-    pub turns-poised : Inputs text segs on → Begun text segs on β₀ r₀ → PoisedOr text segs on β r
-    turns-poised l g = stands-poised r (l .segmented) (omega (arith, w .high, p .few)) (w .to (g .x) (g .cr) (g .ss) (g .book) (g .stands))
+    pub turns-turn-ready : Inputs text segs on → Begun text segs on β₀ r₀ → TurnReadyOr text segs on β r
+    turns-turn-ready l g = stands-turn-ready r (l .segmented) (omega (arith, w .high, p .few)) (w .to (g .x) (g .cr) (g .ss) (g .progress) (g .stands))
 
     pub turns-more : on .sweep ≡ policy .sweep → Inputs text segs on → k < policy .count + 2 → (i : ℕ) → i ≡ ruleRow k (policy .count) → (z : HeldRule) (turn : Turn) (aim : Aim)
         → TurnIs k (policy .count) (getD (policy .rules) i z) (policy .posture) r turn → (β′ : Buffers) (r′ : Done)
@@ -184,12 +185,12 @@ module _ (text : Text) (segs : List ℕ) (on : Setting) (policy : HeldPolicy) (p
           tasks = w .tasks ++ (taskAt text policy k rule ∷ []);
           first = first-more text policy p h i e z (w .first);
           to = λ x cr ss b g.
-              rw (task-after (on .key) (on .separators) (asPolicy text policy) (w .tasks) (taskAt text policy k rule) ss b, task-book (on .key) (on .separators) (asPolicy text policy) (w .tasks) (taskAt text policy k rule) ss b)
+              rw (task-after (on .key) (on .separators) (asPolicy text policy) (w .tasks) (taskAt text policy k rule) ss b, task-progress (on .key) (on .separators) (asPolicy text policy) (w .tasks) (taskAt text policy k rule) ss b)
               (turn-stands text segs on policy q (l .leaves) rule turn aim r t (w .to x cr ss b g) r′ n);
         }
 
-    pub turns-done : policy .count + 2 ≤ k → (x : ℕ) (cr : Bool) (ss : List Segment) (b : Book) → Stands x cr text segs on 0 ss b β₀ r₀
-        → Stands x cr text segs on 130 (afterTasks (on .key) (on .separators) (asPolicy text policy) (tasksOf (asPolicy text policy)) ss b) (bookTasks (on .key) (on .separators) (asPolicy text policy) (tasksOf (asPolicy text policy)) ss b) β r
+    pub turns-done : policy .count + 2 ≤ k → (x : ℕ) (cr : Bool) (ss : List Segment) (b : Progress) → Stands x cr text segs on 0 ss b β₀ r₀
+        → Stands x cr text segs on 130 (afterTasks (on .key) (on .separators) (asPolicy text policy) (tasksOf (asPolicy text policy)) ss b) (progressTasks (on .key) (on .separators) (asPolicy text policy) (tasksOf (asPolicy text policy)) ss b) β r
     turns-done h x cr ss b g =
         let e : w .tasks ≡ tasksOf (asPolicy text policy) = w .first .all (omega (arith, w .high)) in
         rw e at (stands-later r {more = 130} (omega (arith, w .high, p .few)) (w .to x cr ss b g))

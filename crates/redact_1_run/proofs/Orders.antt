@@ -11,7 +11,7 @@ use Rattle.text.proofs.Laws.{split}
 use Rattle.er7.specs.declared.message.Place.{Place}
 use Rattle.message_model.specs.Message.{Leaf, leaf, Label, atField}
 use Rattle.message_model.specs.Chain.{Piece, a-field, a-repetition, a-component, a-subcomponent, nextPlace, Chain, Chained}
-use Rattle.er7_table.specs.Table.{cell, listOf, placeAt, textAt, leafAt, firstLeaf, labelAt}
+use Rattle.er7_table.specs.Table.{cell, listOf, placeAt, storedText, leafAt, firstLeaf, labelAt}
 use Rattle.redact_4_leaf.specs.Walk.{segmentOf}
 use Rattle.redact_4_leaf.specs.State.{Buffers, leaves, marked}
 use Rattle.redact_4_leaf.proofs.Acting.{live-text}
@@ -42,12 +42,12 @@ stepped p q b none xs c = record { place = p; low = omega arith; high = omega ar
 stepped p q b (some t) xs ((k, e), c) = record { place = q; low = rw e (step-low k p); high = rw e (step-high k p); rest = c; live = λ u f. refl }
 
 module _ (m : ℕ → Bool) (cells : List ℕ) (store : Text) where
-  step-at : (i n : ℕ) (p : Place) → Chain p (listOf (leafAt m cells store) i (suc n)) → Stepped p (placeAt cells i) (textAt cells store i) (listOf (leafAt m cells store) (suc i) n)
+  step-at : (i n : ℕ) (p : Place) → Chain p (listOf (leafAt m cells store) i (suc n)) → Stepped p (placeAt cells i) (storedText cells store i) (listOf (leafAt m cells store) (suc i) n)
   unfolding listOf leafAt
-  step-at i n p c = stepped p (placeAt cells i) (m i) (textAt cells store i) (listOf (leafAt m cells store) (suc i) n) c
+  step-at i n p c = stepped p (placeAt cells i) (m i) (storedText cells store i) (listOf (leafAt m cells store) (suc i) n) c
 
   -- the field of the place behind a leaf that has not vanished
-  field-behind : (i n : ℕ) (p : Place) (s : Stepped p (placeAt cells i) (textAt cells store i) (listOf (leafAt m cells store) (suc i) n)) → cell cells i 3 ≡ 0 → s .place .field ≡ cell cells i 4
+  field-behind : (i n : ℕ) (p : Place) (s : Stepped p (placeAt cells i) (storedText cells store i) (listOf (leafAt m cells store) (suc i) n)) → cell cells i 3 ≡ 0 → s .place .field ≡ cell cells i 4
   unfolding placeAt
   field-behind i n p s e = ap (λ (q : Place). q .field) (s .live _ (live-text cells store i e))
 
@@ -69,7 +69,7 @@ module _ (m : ℕ → Bool) (cells : List ℕ) (store : Text) where
       (λ h. chain-rises n (suc i) (s .place) (s .rest) j k h b (omega arith) e f)
       (λ h. let q : j ≡ i = omega arith in let g = field-behind i n p s (rw q at e) in behind s q g)
     where
-      behind : (s : Stepped p (placeAt cells i) (textAt cells store i) (listOf (leafAt m cells store) (suc i) n)) → j ≡ i → s .place .field ≡ cell cells i 4 → cell cells j 4 ≤ cell cells k 4
+      behind : (s : Stepped p (placeAt cells i) (storedText cells store i) (listOf (leafAt m cells store) (suc i) n)) → j ≡ i → s .place .field ≡ cell cells i 4 → cell cells j 4 ≤ cell cells k 4
       behind s q g =
           split i k (λ h. rw q (omega (arith, g, chain-fields n (suc i) (s .place) (s .rest) k h (omega arith) f .0)))
           (λ h. let r : k ≡ j = omega arith in rw r (omega arith))

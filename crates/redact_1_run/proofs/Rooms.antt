@@ -9,11 +9,12 @@ use native.Mathlib.Omega.{arith}
 use lib.ListN.{length, length-append}
 use Rattle.text.specs.Text.{Text}
 use Rattle.refusal.specs.declared.Refusal.{Refusal}
+use Rattle.refusal.specs.Limits.{LEAVES_MAX, TEXT_MAX}
 use Rattle.er7.specs.declared.separators.Separators.{Separators}
 use Rattle.message_model.specs.Message.{Leaf, Label, Segment, segment, lead, printLeaves, printSegments}
-use Rattle.run_model.specs.Redact.{Known, Book}
+use Rattle.run_model.specs.Redact.{Known, Progress}
 use Rattle.run_model.proofs.Sizes.{textSize, leafSize, leaf-size}
-use Rattle.er7_table.specs.Table.{listOf, placeAt, textAt, leafAt, firstLeaf, labelAt, Good, Segmented}
+use Rattle.er7_table.specs.Table.{listOf, placeAt, storedText, leafAt, firstLeaf, labelAt, Good, Segmented}
 use Rattle.er7_table.proofs.Laws.{list-ext}
 use Rattle.er7_render.specs.Stored.{liveLen, liveSum, RoomMade}
 use Rattle.er7_render.proofs.Sums.{sum-parts}
@@ -23,23 +24,23 @@ use Rattle.redact_5_act.specs.declared.state.Setting.{Setting}
 use Rattle.redact_5_act.specs.declared.state.Counters.{Counters}
 use Rattle.redact_5_act.specs.declared.state.Done.{Done}
 use Rattle.redact_5_act.specs.declared.state.Done.the-variants.{Going, Stopped}
-use Rattle.redact_4_leaf.specs.State.{Buffers, buffers, marked, knownNow, Books, Held, Funded}
+use Rattle.redact_4_leaf.specs.State.{Buffers, buffers, marked, knownNow, RecordedIn, Held, RoomLeft}
 use Rattle.redact_4_leaf.proofs.Visits.{known-same, held-same}
 use Rattle.redact_2_turn.specs.Ordered.{AllOrdered}
 use Rattle.redact_2_turn.specs.Taken.{Ahead, TurnTaken}
 use Rattle.redact_2_turn.specs.Turn.{byNode}
 use Rattle.redact_2_turn.specs.declared.turn.Job.{Job}
 use Rattle.redact_2_turn.proofs.Idle.{ordered-as}
-use Rattle.redact_1_run.specs.Stage.{Poised, PoisedOr, RoomFor, MadeRoom, NextIs}
+use Rattle.redact_1_run.specs.Stage.{TurnReady, TurnReadyOr, RoomFor, MadeRoom, NextIs}
 
 -- ---- what room is good for
 
 module _ {n : ℕ} {cells : List ℕ} {store bytes : Text} {from : ℕ} {cells′ : List ℕ} {store′ bytes′ : Text} {r : ℕ}
     (w : RoomMade n cells store bytes from cells′ store′ bytes′ r) where
   -- a turn may begin
-  pub room-funded : (c : Counters) → c .used ≡ r → liveSum cells 0 n ≤ c .size → c .size ≤ 49152 → n ≤ 4096 → c .rows ≤ 2 ^ 30 → c .«report_len» ≤ 2 ^ 46
-      → (node : Bool) → Funded node cells′ 0 n c
-  room-funded c q sum most few rows report node =
+  pub made-room-left : (c : Counters) → c .used ≡ r → liveSum cells 0 n ≤ c .size → c .size ≤ TEXT_MAX → n ≤ LEAVES_MAX → c .rows ≤ 2 ^ 30 → c .«report_len» ≤ 2 ^ 46
+      → (node : Bool) → RoomLeft node cells′ 0 n c
+  made-room-left c q sum most few rows report node =
       let z : n - 0 ≡ n = omega arith in
       let s : liveSum cells′ 0 (n - 0) ≤ c .size = rw (z, room-sum w) sum in
       record {
@@ -81,7 +82,7 @@ segment-size s cr g xs (z ∷ ss) = simp length-append (omega arith)
 module _ (s : Separators) (cr : Bool) (named : ℕ → Bool) {cells : List ℕ} {store : Text} {n used : ℕ} (good : Good cells store n used) where
   leaf-live : (g : Label) (i : ℕ) → i < n → liveLen cells i ≤ leafSize s g (leafAt named cells store i)
   unfolding leafAt
-  leaf-live g i h = rw (live-text good i h, text-size (textAt cells store i)) (text-most (length (lead s g (placeAt cells i))) (textAt cells store i))
+  leaf-live g i h = rw (live-text good i h, text-size (storedText cells store i)) (text-most (length (lead s g (placeAt cells i))) (storedText cells store i))
 
   leaves-live : (g : Label) (i k : ℕ) → i + k ≤ n → liveSum cells i k ≤ length (printLeaves s g (listOf (leafAt named cells store) i k))
   unfolding liveSum listOf
@@ -130,8 +131,8 @@ module _ (text : Text) (on : Setting) (named : List Bool) (report : Text) (known
   room-held : Held text (on .leaves) behind c′
   room-held = record { good = w .room .good; known = held-same (h .known) (w .room .beside) c′ (w .known) (w .known-used); marks = h .marks }
 
-  room-books : (b : Book) → Books text before c b → Books text behind c′ b
-  room-books b k = record {
+  room-recorded : (b : Progress) → RecordedIn text before c b → RecordedIn text behind c′ b
+  room-recorded b k = record {
     rows = k .rows;
     is = rw (same-knowing, w .size) (k .is);
     count = w .rows ∙ k .count;
@@ -147,9 +148,9 @@ module _ (text : Text) (on : Setting) (named : List Bool) (report : Text) (known
         let q = room-segments (w .room) (labelAt segs) (firstLeaf segs) (on .segments) (z .order) (z .all) (marked named) in
         record {
           out = record {
-            booking = λ b k.
-                let a = rw same-pass at (t .out .booking b (room-books b k)) in
-                record { book = a .book; stands = a .stands; all = record { here = a .all .here ∙ rw q; book = sym (rw q) ∙ a .all .book } };
+            advanced = λ b k.
+                let a = rw same-pass at (t .out .advanced b (room-recorded b k)) in
+                record { progress = a .progress; stands = a .stands; all = record { here = a .all .here ∙ rw q; progress = sym (rw q) ∙ a .all .progress } };
             held = t .out .held;
             kept = record { place = λ j. t .out .kept .place j ∙ w .room .place j; cells = t .out .kept .cells ∙ w .room .cells-long; report = t .out .kept .report };
             more = record { rows = omega (arith, t .out .more .rows, w .rows); report = omega (arith, t .out .more .report, w .report) };
@@ -158,7 +159,7 @@ module _ (text : Text) (on : Setting) (named : List Bool) (report : Text) (known
         }
     room-turned (Stopped e) t =
         let q = room-segments (w .room) (labelAt segs) (firstLeaf segs) (on .segments) (z .order) (z .all) (marked named) in
-        record { out = λ b k. sym (rw (q, same-pass)) ∙ t .out b (room-books b k) }
+        record { out = λ b k. sym (rw (q, same-pass)) ∙ t .out b (room-recorded b k) }
 
     pub room-next : {d : Done} → d ≡ Going c → {r : Done} → TurnTaken P on segs text behind c′ β r → NextIs P on text segs before d β r
     room-next e {r} t = rw e (record { out = room-turned r t })
@@ -186,19 +187,19 @@ next-stopped q = rw q (record { out = refl })
 
 -- what stands before a turn, by how far the run has come
 module _ (text : Text) (segs : List ℕ) (on : Setting) (β : Buffers) (r : Done) where
-  pub poised-going : {c : Counters} → PoisedOr text segs on β r → r ≡ Going c → Poised text segs on β c
-  poised-going g e = subst (PoisedOr text segs on β) e g
+  pub turn-ready-going : {c : Counters} → TurnReadyOr text segs on β r → r ≡ Going c → TurnReady text segs on β c
+  turn-ready-going g e = subst (TurnReadyOr text segs on β) e g
 
-module _ {text : Text} {segs : List ℕ} {on : Setting} {β : Buffers} {c : Counters} (p : Poised text segs on β c) where
-  pub poised-room : RoomFor (on .leaves) (β .cells) (β .store) c
-  poised-room = record { good = p .held .good; live = omega (arith, p .live, p .most); beside = p .held .known .good .within }
+module _ {text : Text} {segs : List ℕ} {on : Setting} {β : Buffers} {c : Counters} (p : TurnReady text segs on β c) where
+  pub turn-ready-room : RoomFor (on .leaves) (β .cells) (β .store) c
+  turn-ready-room = record { good = p .held .good; live = omega (arith, p .live, p .most); beside = p .held .known .good .within }
 
   -- the room that a turn asks for
-  poised-funded : on .leaves ≤ 4096 → {cells′ : List ℕ} {store′ bytes′ : Text} {c′ : Counters} → MadeRoom (on .leaves) (β .cells) (β .store) (β .bytes) c cells′ store′ bytes′ c′
-      → (node : Bool) → Funded node cells′ 0 (on .leaves) c′
-  poised-funded few {c′ = c′} w node = room-funded (w .room) c′ refl (rw (w .size) (p .live)) (rw (w .size) (p .most)) few (rw (w .rows) (p .rows)) (rw (w .report) (p .report)) node
+  ready-room-left : on .leaves ≤ LEAVES_MAX → {cells′ : List ℕ} {store′ bytes′ : Text} {c′ : Counters} → MadeRoom (on .leaves) (β .cells) (β .store) (β .bytes) c cells′ store′ bytes′ c′
+      → (node : Bool) → RoomLeft node cells′ 0 (on .leaves) c′
+  ready-room-left few {c′ = c′} w node = made-room-left (w .room) c′ refl (rw (w .size) (p .live)) (rw (w .size) (p .most)) few (rw (w .rows) (p .rows)) (rw (w .report) (p .report)) node
 
 pub room-ahead : {text : Text} {segs : List ℕ} (job : Job) {named : List Bool} {report : Text} {known cells cells′ : List ℕ} {store store′ bytes bytes′ : Text} {c c′ : Counters}
-    → Poised text segs (job .on) (buffers named cells store report bytes known) c → job .on .leaves ≤ 4096 → MadeRoom (job .on .leaves) cells store bytes c cells′ store′ bytes′ c′
+    → TurnReady text segs (job .on) (buffers named cells store report bytes known) c → job .on .leaves ≤ LEAVES_MAX → MadeRoom (job .on .leaves) cells store bytes c cells′ store′ bytes′ c′
     → Ahead text job 0 (buffers named cells′ store′ report bytes′ known) c′
-room-ahead {text} job {named} {report} {known} p few w = record { held = room-held text (job .on) named report known w (p .held); funded = poised-funded p few w (byNode (job .turn)) }
+room-ahead {text} job {named} {report} {known} p few w = record { held = room-held text (job .on) named report known w (p .held); room-left = ready-room-left p few w (byNode (job .turn)) }

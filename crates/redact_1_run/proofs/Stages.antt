@@ -8,15 +8,16 @@ use native.Mathlib.Omega.{arith}
 use lib.ListN.{length}
 use Rattle.text.specs.Text.{Text}
 use Rattle.refusal.specs.declared.Refusal.{Refusal}
+use Rattle.refusal.specs.Limits.{LEAVES_MAX}
 use Rattle.er7.specs.declared.separators.Separators.{Separators}
 use Rattle.er7_redact.specs.Action.{Action, asAction}
 use Rattle.er7_redact.specs.Policy.{Rule, asRule, reject}
 use Rattle.message_model.specs.Message.{Segment, printSegments}
 use Rattle.message_model.specs.Chain.{Chained}
 use Rattle.run_model.specs.Order.{FieldsFirst}
-use Rattle.run_model.specs.Redact.{Known, Row, Book, running, stopped, knownIn, bookAll, overSegments, segmentsEvents, forPosture, forSweep, afterRule}
+use Rattle.run_model.specs.Redact.{Known, Row, Progress, running, stopped, knownIn, afterEvents, overSegments, segmentsEvents, forPosture, forSweep, afterRule}
 use Rattle.run_model.proofs.Chains.{rule-chained, rule-fields-first, unnamed-chained, unnamed-fields-first}
-use Rattle.run_model.proofs.Sizes.{Moves, rule-sizes, unnamed-sizes, book-size}
+use Rattle.run_model.proofs.Sizes.{Moves, rule-sizes, unnamed-sizes, progress-size}
 use Rattle.er7_table.specs.Table.{listOf, firstLeaf, labelAt, Segmented}
 use Rattle.redact_5_act.specs.declared.state.Setting.{Setting}
 use Rattle.redact_5_act.specs.declared.state.Counters.{Counters}
@@ -28,8 +29,8 @@ use Rattle.redact_4_leaf.specs.Visit.{rulePass, unnamedPass}
 use Rattle.redact_2_turn.specs.Turn.{passOf}
 use Rattle.redact_2_turn.specs.declared.turn.Turn.{Turn}
 use Rattle.redact_2_turn.specs.declared.turn.Turn.the-variants.{Apply, Collapse, Reject, Sweep, Idle}
-use Rattle.redact_2_turn.specs.Taken.{Booking, Turned, TurnTaken}
-use Rattle.redact_1_run.specs.Stage.{segmentsOf, Stage, Stands, Poised, PoisedOr}
+use Rattle.redact_2_turn.specs.Taken.{Advanced, Turned, TurnTaken}
+use Rattle.redact_1_run.specs.Stage.{segmentsOf, Stage, Stands, TurnReady, TurnReadyOr}
 use Rattle.redact_1_run.proofs.Orders.{chained-ordered}
 use Rattle.redact_1_run.proofs.Rooms.{live-printed}
 
@@ -66,38 +67,38 @@ turn-sound key s cr text ks Idle = unnamed-sound key s cr (λ t. none)
 
 -- ---- a turn
 
-module _ {x : ℕ} {cr : Bool} {text : Text} {segs : List ℕ} {on : Setting} {turns : ℕ} {ss : List Segment} {b : Book} {β : Buffers} {c : Counters} (g : Stage x cr text segs on turns ss b β c) where
-  -- what is known stands in the book
-  pub book-knows : knowing text β c ≡ knownIn b
+module _ {x : ℕ} {cr : Bool} {text : Text} {segs : List ℕ} {on : Setting} {turns : ℕ} {ss : List Segment} {b : Progress} {β : Buffers} {c : Counters} (g : Stage x cr text segs on turns ss b β c) where
+  -- what is known stands in the progress
+  pub progress-knows : knowing text β c ≡ knownIn b
   unfolding knownIn
-  book-knows = sym (rw (g .books .is))
+  progress-knows = sym (rw (g .recorded .is))
 
-  module _ {P : List Known → Pass} (q : Sound (on .separators) cr (P (knowing text β c))) (few : on .leaves ≤ 4096) {β′ : Buffers} {c′ : Counters} (t : Turned P on segs text β c β′ c′) where
+  module _ {P : List Known → Pass} (q : Sound (on .separators) cr (P (knowing text β c))) (few : on .leaves ≤ LEAVES_MAX) {β′ : Buffers} {c′ : Counters} (t : Turned P on segs text β c β′ c′) where
     abbrev Q : Pass
     Q = P (knowing text β c)
 
-    abbrev taken : Booking Q on segs text β β′ c′ b
-    taken = t .booking b (g .books)
+    abbrev taken : Advanced Q on segs text β β′ c′ b
+    taken = t .advanced b (g .recorded)
 
-    turn-book : taken .book ≡ bookAll (on .sweep) (segmentsEvents (Q .says) ss) b
+    turn-progress : taken .progress ≡ afterEvents (on .sweep) (segmentsEvents (Q .says) ss) b
     unfolding segmentsOf
-    turn-book = sym (taken .all .book) ∙ ap (λ xs. bookAll (on .sweep) (segmentsEvents (Q .says) xs) b) (g .segments)
+    turn-progress = sym (taken .all .progress) ∙ ap (λ xs. afterEvents (on .sweep) (segmentsEvents (Q .says) xs) b) (g .segments)
 
-    turn-size : (ks : List Known) (ρs : List Row) → b ≡ running ks ρs (c .size) → (ks′ : List Known) (ρs′ : List Row) → taken .book ≡ running ks′ ρs′ (c′ .size)
+    turn-size : (ks : List Known) (ρs : List Row) → b ≡ running ks ρs (c .size) → (ks′ : List Known) (ρs′ : List Row) → taken .progress ≡ running ks′ ρs′ (c′ .size)
         → c′ .size ≡ x + length (printSegments (on .separators) cr (overSegments (Q .leaf) ss))
     turn-size ks ρs e ks′ ρs′ f =
-        book-size (on .sweep) (segmentsEvents (Q .says) ss) ks ks′ ρs ρs′ (c .size) (c′ .size) (sym (ap (bookAll (on .sweep) (segmentsEvents (Q .says) ss)) e) ∙ sym turn-book ∙ f) .0
+        progress-size (on .sweep) (segmentsEvents (Q .says) ss) ks ks′ ρs ρs′ (c .size) (c′ .size) (sym (ap (afterEvents (on .sweep) (segmentsEvents (Q .says) ss)) e) ∙ sym turn-progress ∙ f) .0
         ∙ q .moves ss (g .chained) (g .first) x (c .size) (g .size)
 
     turn-segments : segmentsOf segs on β′ ≡ overSegments (Q .leaf) ss
     unfolding segmentsOf
     turn-segments = taken .all .here ∙ ap (overSegments (Q .leaf)) (g .segments)
 
-    stage-turn : Stage x cr text segs on (turns + 1) (overSegments (Q .leaf) ss) (bookAll (on .sweep) (segmentsEvents (Q .says) ss) b) β′ c′
+    stage-turn : Stage x cr text segs on (turns + 1) (overSegments (Q .leaf) ss) (afterEvents (on .sweep) (segmentsEvents (Q .says) ss) b) β′ c′
     stage-turn = record {
       segments = turn-segments;
-      books = rw turn-book at (taken .stands);
-      size = turn-size (knowing text β c) (g .books .rows) (g .books .is) (knowing text β′ c′) (taken .stands .rows) (taken .stands .is);
+      recorded = rw turn-progress at (taken .stands);
+      size = turn-size (knowing text β c) (g .recorded .rows) (g .recorded .is) (knowing text β′ c′) (taken .stands .rows) (taken .stands .is);
       most = t .most;
       chained = q .chained ss (g .chained);
       first = q .first ss (g .first);
@@ -110,21 +111,21 @@ module _ {x : ℕ} {cr : Bool} {text : Text} {segs : List ℕ} {on : Setting} {t
   unfolding segmentsOf
   all-segments = g .segments
 
-  turn-stops : (Q : Pass) {e : Refusal} → bookAll (on .sweep) (segmentsEvents (Q .says) (listOf (segmentOf (labelAt segs) (firstLeaf segs) (leaves β)) 0 (on .segments))) b ≡ stopped e
-      → bookAll (on .sweep) (segmentsEvents (Q .says) ss) b ≡ stopped e
-  turn-stops Q q = sym (ap (λ xs. bookAll (on .sweep) (segmentsEvents (Q .says) xs) b) all-segments) ∙ q
+  turn-stops : (Q : Pass) {e : Refusal} → afterEvents (on .sweep) (segmentsEvents (Q .says) (listOf (segmentOf (labelAt segs) (firstLeaf segs) (leaves β)) 0 (on .segments))) b ≡ stopped e
+      → afterEvents (on .sweep) (segmentsEvents (Q .says) ss) b ≡ stopped e
+  turn-stops Q q = sym (ap (λ xs. afterEvents (on .sweep) (segmentsEvents (Q .says) xs) b) all-segments) ∙ q
 
   -- a turn was taken
-  pub stands-next : (P : List Known → Pass) → Sound (on .separators) cr (P (knowing text β c)) → on .leaves ≤ 4096 → {β′ : Buffers} (r : Done) → TurnTaken P on segs text β c β′ r
-      → Stands x cr text segs on (turns + 1) (overSegments (P (knowing text β c) .leaf) ss) (bookAll (on .sweep) (segmentsEvents (P (knowing text β c) .says) ss) b) β′ r
+  pub stands-next : (P : List Known → Pass) → Sound (on .separators) cr (P (knowing text β c)) → on .leaves ≤ LEAVES_MAX → {β′ : Buffers} (r : Done) → TurnTaken P on segs text β c β′ r
+      → Stands x cr text segs on (turns + 1) (overSegments (P (knowing text β c) .leaf) ss) (afterEvents (on .sweep) (segmentsEvents (P (knowing text β c) .says) ss) b) β′ r
   stands-next P q few (Going c′) t = record { out = stage-turn {P = P} q few (t .out) }
-  stands-next P q few (Stopped e) t = record { out = turn-stops (P (knowing text β c)) (t .out b (g .books)) }
+  stands-next P q few (Stopped e) t = record { out = turn-stops (P (knowing text β c)) (t .out b (g .recorded)) }
 
 -- ---- what a turn asks for, and what it leaves
 
-module _ {x : ℕ} {cr : Bool} {text : Text} {segs : List ℕ} {on : Setting} {turns : ℕ} {ss : List Segment} {b : Book} {β : Buffers} where
-  stage-poised : {c : Counters} → Segmented segs (on .segments) (on .leaves) → turns ≤ 130 → Stage x cr text segs on turns ss b β c → Poised text segs on β c
-  stage-poised {c} z few g =
+module _ {x : ℕ} {cr : Bool} {text : Text} {segs : List ℕ} {on : Setting} {turns : ℕ} {ss : List Segment} {b : Progress} {β : Buffers} where
+  stage-turn-ready : {c : Counters} → Segmented segs (on .segments) (on .leaves) → turns ≤ 130 → Stage x cr text segs on turns ss b β c → TurnReady text segs on β c
+  stage-turn-ready {c} z few g =
       let l = live-printed (on .separators) cr (marked (β .named)) (g .held .good) (labelAt segs) (firstLeaf segs) (on .segments) (z .order) (z .all) (z .none-before) in
       let k = rw (all-segments g) at l in
       record {
@@ -136,14 +137,14 @@ module _ {x : ℕ} {cr : Bool} {text : Text} {segs : List ℕ} {on : Setting} {t
         report = omega (arith, g .report);
       }
 
-  pub stands-poised : (r : Done) → Segmented segs (on .segments) (on .leaves) → turns ≤ 130 → Stands x cr text segs on turns ss b β r → PoisedOr text segs on β r
-  stands-poised (Going c) z few g = stage-poised z few (g .out)
-  stands-poised (Stopped e) z few g = tt
+  pub stands-turn-ready : (r : Done) → Segmented segs (on .segments) (on .leaves) → turns ≤ 130 → Stands x cr text segs on turns ss b β r → TurnReadyOr text segs on β r
+  stands-turn-ready (Going c) z few g = stage-turn-ready z few (g .out)
+  stands-turn-ready (Stopped e) z few g = tt
 
   stage-later : {c : Counters} {more : ℕ} → turns ≤ more → Stage x cr text segs on turns ss b β c → Stage x cr text segs on more ss b β c
   stage-later h g = record {
     segments = g .segments;
-    books = g .books;
+    recorded = g .recorded;
     size = g .size;
     most = g .most;
     chained = g .chained;

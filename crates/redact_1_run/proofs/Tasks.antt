@@ -17,80 +17,80 @@ use Rattle.policy_model.specs.Policy.{Policy}
 use Rattle.policy.specs.Policy.{asRules, asPolicy, PolicyHeld}
 use Rattle.policy.specs.declared.policy.Policy.{Policy as HeldPolicy}
 use Rattle.policy.proofs.Rules.{rules-step}
-use Rattle.run_model.specs.Redact.{Book, running, knownIn, bookAll, overSegments, segmentsEvents, unnamedLeaf, unnamedEvents, afterRule, afterRules, rulesEvents, forPosture, beforeSweep, eventsBeforeSweep, bookBeforeSweep, redactedAs, swept as sweptAs, redactFrom}
+use Rattle.run_model.specs.Redact.{Progress, running, knownIn, afterEvents, overSegments, segmentsEvents, unnamedLeaf, unnamedEvents, afterRule, afterRules, rulesEvents, forPosture, beforeSweep, eventsBeforeSweep, progressBeforeSweep, redactedAs, swept as sweptAs, redactFrom}
 use Rattle.redact_4_leaf.specs.Walk.{Pass}
 use Rattle.redact_4_leaf.specs.Visit.{rulePass, unnamedPass}
-use Rattle.redact_4_leaf.proofs.Walks.{book-append}
-use Rattle.redact_1_run.specs.Turns.{Task, ruled, judged, swept, tasksOf, passFor, segmentsBy, bookBy, afterTasks, bookTasks, ruleRow}
+use Rattle.redact_4_leaf.proofs.Walks.{progress-append}
+use Rattle.redact_1_run.specs.Turns.{Task, ruled, judged, swept, tasksOf, passFor, segmentsBy, progressBy, afterTasks, progressTasks, ruleRow}
 use Rattle.redact_1_run.proofs.Steps.{row-low}
 
 -- ---- tasks behind tasks
 
 module _ (key : ℕ) (s : Separators) (P : Policy) where
-  tasks-after : (ts us : List Task) (ss : List Segment) (b : Book) → afterTasks key s P (ts ++ us) ss b ≡ afterTasks key s P us (afterTasks key s P ts ss b) (bookTasks key s P ts ss b)
-  unfolding afterTasks bookTasks
+  tasks-after : (ts us : List Task) (ss : List Segment) (b : Progress) → afterTasks key s P (ts ++ us) ss b ≡ afterTasks key s P us (afterTasks key s P ts ss b) (progressTasks key s P ts ss b)
+  unfolding afterTasks progressTasks
   tasks-after [] us ss b = refl
   tasks-after (t ∷ ts) us ss b = tasks-after ts us _ _
 
-  tasks-book : (ts us : List Task) (ss : List Segment) (b : Book) → bookTasks key s P (ts ++ us) ss b ≡ bookTasks key s P us (afterTasks key s P ts ss b) (bookTasks key s P ts ss b)
-  unfolding afterTasks bookTasks
-  tasks-book [] us ss b = refl
-  tasks-book (t ∷ ts) us ss b = tasks-book ts us _ _
+  tasks-progress : (ts us : List Task) (ss : List Segment) (b : Progress) → progressTasks key s P (ts ++ us) ss b ≡ progressTasks key s P us (afterTasks key s P ts ss b) (progressTasks key s P ts ss b)
+  unfolding afterTasks progressTasks
+  tasks-progress [] us ss b = refl
+  tasks-progress (t ∷ ts) us ss b = tasks-progress ts us _ _
 
   -- one more
-  module _ (ts : List Task) (t : Task) (ss : List Segment) (b : Book) where
+  module _ (ts : List Task) (t : Task) (ss : List Segment) (b : Progress) where
     abbrev pub next-pass : Pass
-    next-pass = passFor key s P t (knownIn (bookTasks key s P ts ss b))
+    next-pass = passFor key s P t (knownIn (progressTasks key s P ts ss b))
 
     pub task-after : afterTasks key s P (ts ++ (t ∷ [])) ss b ≡ segmentsBy next-pass (afterTasks key s P ts ss b)
     unfolding afterTasks
     task-after = tasks-after ts (t ∷ []) ss b
 
-    pub task-book : bookTasks key s P (ts ++ (t ∷ [])) ss b ≡ bookBy P next-pass (afterTasks key s P ts ss b) (bookTasks key s P ts ss b)
-    unfolding bookTasks
-    task-book = tasks-book ts (t ∷ []) ss b
+    pub task-progress : progressTasks key s P (ts ++ (t ∷ [])) ss b ≡ progressBy P next-pass (afterTasks key s P ts ss b) (progressTasks key s P ts ss b)
+    unfolding progressTasks
+    task-progress = tasks-progress ts (t ∷ []) ss b
 
   -- ---- rules
 
-  rules-after : (rs : List Rule) (ss : List Segment) (b : Book) → afterTasks key s P (map ruled rs) ss b ≡ afterRules key s rs ss
+  rules-after : (rs : List Rule) (ss : List Segment) (b : Progress) → afterTasks key s P (map ruled rs) ss b ≡ afterRules key s rs ss
   unfolding afterTasks afterRules afterRule passFor segmentsBy rulePass
   rules-after [] ss b = refl
   rules-after (r ∷ rs) ss b = rules-after rs (afterRule key s r ss) _
 
-  rules-book : (rs : List Rule) (ss : List Segment) (b : Book) → bookTasks key s P (map ruled rs) ss b ≡ bookAll (P .sweep) (rulesEvents key s rs ss) b
-  unfolding bookTasks rulesEvents afterRule passFor segmentsBy bookBy rulePass bookAll
-  rules-book [] ss b = refl
-  rules-book (r ∷ rs) ss b = rules-book rs (afterRule key s r ss) _ ∙ sym (book-append (P .sweep) (segmentsEvents (rulePass key s r .says) ss) (rulesEvents key s rs (afterRule key s r ss)) b)
+  rules-progress : (rs : List Rule) (ss : List Segment) (b : Progress) → progressTasks key s P (map ruled rs) ss b ≡ afterEvents (P .sweep) (rulesEvents key s rs ss) b
+  unfolding progressTasks rulesEvents afterRule passFor segmentsBy progressBy rulePass afterEvents
+  rules-progress [] ss b = refl
+  rules-progress (r ∷ rs) ss b = rules-progress rs (afterRule key s r ss) _ ∙ sym (progress-append (P .sweep) (segmentsEvents (rulePass key s r .says) ss) (rulesEvents key s rs (afterRule key s r ss)) b)
 
   -- ---- the whole run
 
   module _ (cr : Bool) (ss : List Segment) (z : ℕ) where
-    abbrev b₀ : Book
+    abbrev b₀ : Progress
     b₀ = running [] [] z
 
     before-after : afterTasks key s P (map ruled (P .rules) ++ (judged ∷ [])) ss b₀ ≡ beforeSweep key s P ss
     unfolding beforeSweep segmentsBy passFor unnamedPass
     before-after = task-after (map ruled (P .rules)) judged ss b₀ ∙ ap (overSegments (unnamedLeaf key s (forPosture (P .posture)))) (rules-after (P .rules) ss b₀)
 
-    before-book : bookTasks key s P (map ruled (P .rules) ++ (judged ∷ [])) ss b₀ ≡ bookBeforeSweep z key s P ss
-    unfolding bookBeforeSweep eventsBeforeSweep bookBy passFor unnamedPass
-    before-book =
-        task-book (map ruled (P .rules)) judged ss b₀
-        ∙ rw (rules-after (P .rules) ss b₀, rules-book (P .rules) ss b₀)
-        (sym (book-append (P .sweep) (rulesEvents key s (P .rules) ss) (segmentsEvents (unnamedEvents key s (forPosture (P .posture))) (afterRules key s (P .rules) ss)) b₀))
+    before-progress : progressTasks key s P (map ruled (P .rules) ++ (judged ∷ [])) ss b₀ ≡ progressBeforeSweep z key s P ss
+    unfolding progressBeforeSweep eventsBeforeSweep progressBy passFor unnamedPass
+    before-progress =
+        task-progress (map ruled (P .rules)) judged ss b₀
+        ∙ rw (rules-after (P .rules) ss b₀, rules-progress (P .rules) ss b₀)
+        (sym (progress-append (P .sweep) (rulesEvents key s (P .rules) ss) (segmentsEvents (unnamedEvents key s (forPosture (P .posture))) (afterRules key s (P .rules) ss)) b₀))
 
     all-tasks : tasksOf P ≡ (map ruled (P .rules) ++ (judged ∷ [])) ++ (swept ∷ [])
     unfolding tasksOf
     all-tasks = sym (append-assoc (map ruled (P .rules)) (judged ∷ []) (swept ∷ []))
 
-    tasks-run : sweptAs key s P cr (knownIn (bookBeforeSweep z key s P ss)) (bookBeforeSweep z key s P ss) (beforeSweep key s P ss)
-        ≡ redactedAs s cr (bookTasks key s P (tasksOf P) ss b₀) (afterTasks key s P (tasksOf P) ss b₀)
-    unfolding sweptAs segmentsBy bookBy passFor unnamedPass
+    tasks-run : sweptAs key s P cr (knownIn (progressBeforeSweep z key s P ss)) (progressBeforeSweep z key s P ss) (beforeSweep key s P ss)
+        ≡ redactedAs s cr (progressTasks key s P (tasksOf P) ss b₀) (afterTasks key s P (tasksOf P) ss b₀)
+    unfolding sweptAs segmentsBy progressBy passFor unnamedPass
     tasks-run =
-        rw (all-tasks, task-after (map ruled (P .rules) ++ (judged ∷ [])) swept ss b₀, task-book (map ruled (P .rules) ++ (judged ∷ [])) swept ss b₀, before-after, before-book)
+        rw (all-tasks, task-after (map ruled (P .rules) ++ (judged ∷ [])) swept ss b₀, task-progress (map ruled (P .rules) ++ (judged ∷ [])) swept ss b₀, before-after, before-progress)
 
 pub tasks-redact : (key size : ℕ) (P : Policy) (m : Message)
-    → redactFrom size key P m ≡ redactedAs (m .separators) (m .lastCR) (bookTasks key (m .separators) P (tasksOf P) (m .segments) (running [] [] size)) (afterTasks key (m .separators) P (tasksOf P) (m .segments) (running [] [] size))
+    → redactFrom size key P m ≡ redactedAs (m .separators) (m .lastCR) (progressTasks key (m .separators) P (tasksOf P) (m .segments) (running [] [] size)) (afterTasks key (m .separators) P (tasksOf P) (m .segments) (running [] [] size))
 unfolding redactFrom
 tasks-redact key size P m = tasks-run key (m .separators) P (m .lastCR) (m .segments) size
 

@@ -9,14 +9,15 @@ use lib.ListN.{length, replicate, getD, take}
 use Rattle.text.specs.Text.{Text, part, Wrote}
 use Rattle.text.proofs.Writes.{wrote-length}
 use Rattle.refusal.specs.declared.Refusal.{Refusal}
+use Rattle.refusal.specs.Limits.{LEAVES_MAX, TEXT_MAX}
 use Rattle.message_model.specs.Message.{Segment, Message, printSegments, printMessage}
 use Rattle.policy_model.specs.Policy.{Policy}
 use Rattle.run_model.specs.Redact as R
-use Rattle.run_model.specs.Redact.{Book, running, redactedAs, redactFrom}
+use Rattle.run_model.specs.Redact.{Progress, running, redactedAs, redactFrom}
 use Rattle.er7_table.specs.Table.{firstLeaf, labelAt, segmentAt, segmentsFrom, leavesFrom, Good}
 use Rattle.er7_table.proofs.Laws.{list-ext, segments-named}
 use Rattle.er7_message.specs.Parsed.{Standing}
-use Rattle.er7_message.specs.declared.message.Counts.{Counts}
+use Rattle.er7_message.specs.declared.message.Layout.{Layout}
 use Rattle.er7_message.specs.declared.message.ParsedMessage.the-variants.{Read}
 use Rattle.er7_message.proofs.Parsing.{standing-over}
 use Rattle.er7_render.specs.Rendered.{rendered}
@@ -30,7 +31,7 @@ use Rattle.redact_5_act.specs.declared.state.Done.{Done}
 use Rattle.redact_5_act.specs.declared.state.Done.the-variants.{Going, Stopped}
 use Rattle.redact_4_leaf.specs.Walk.{segmentOf}
 use Rattle.redact_4_leaf.specs.State.{Buffers, buffers, leaves, marked, knownNow}
-use Rattle.redact_1_run.specs.Turns.{tasksOf, afterTasks, bookTasks}
+use Rattle.redact_1_run.specs.Turns.{tasksOf, afterTasks, progressTasks}
 use Rattle.redact_1_run.specs.Stage.{segmentsOf, Stage, Stands, Begun, Inputs}
 use Rattle.redact_1_run.specs.Ran.{Loaded, AnyLoaded, Printable, Ran, RedactedIs}
 use Rattle.redact_1_run.specs.declared.core.Redacted.the-variants.{Redacted as Whole, Refused}
@@ -53,38 +54,38 @@ clear zero i = refl
 clear (suc n) zero = refl
 clear (suc n) (suc i) = clear n i
 
-marks-clear : (i : ℕ) → marked (replicate 4096 false) i ≡ false
+marks-clear : (i : ℕ) → marked (replicate LEAVES_MAX false) i ≡ false
 unfolding marked
-marks-clear i = clear 4096 i
+marks-clear i = clear LEAVES_MAX i
 
 -- ---- the start
 
 -- the setting of a run, and its first counters, where `used` bytes of the store are the message
-abbrev pub settingOf : ℕ → Bool → Counts → Setting
-settingOf key sweep counts = record { key = key; separators = counts .separators; sweep = sweep; segments = counts .segments; leaves = counts .leaves }
+abbrev pub settingOf : ℕ → Bool → Layout → Setting
+settingOf key sweep layout = record { key = key; separators = layout .separators; sweep = sweep; segments = layout .segments; leaves = layout .leaves }
 
 abbrev pub started : ℕ → ℕ → Counters
 started size used = record { rows = 0; «report_len» = 0; size = size; used = used; known = 0; «known_used» = 0 }
 
-module _ (key : ℕ) (sweep : Bool) {message : Text} {m : Message} {policy : Text} {size : ℕ} {counts : Counts} {segs cells : List ℕ} (w : Loaded message m policy size counts segs cells)
+module _ (key : ℕ) (sweep : Bool) {message : Text} {m : Message} {policy : Text} {size : ℕ} {layout : Layout} {segs cells : List ℕ} (w : Loaded message m policy size layout segs cells)
     {store store′ : Text} {used : ℕ} (p : Wrote store 0 message store′ used) (report bytes : Text) (known : List ℕ) where
   front : take (length message) store′ ≡ message
   unfolding part
   front = wrote-part p
 
-  over : Standing store′ m segs cells counts
-  over = standing-over message store′ m segs cells (Read counts) front (omega (arith, wrote-length p, p .high, p .end)) (w .standing)
+  over : Standing store′ m segs cells layout
+  over = standing-over message store′ m segs cells (Read layout) front (omega (arith, wrote-length p, p .high, p .end)) (w .standing)
 
   abbrev first-buffers : Buffers
-  first-buffers = buffers (replicate 4096 false) cells store′ report bytes known
+  first-buffers = buffers (replicate LEAVES_MAX false) cells store′ report bytes known
 
-  first-segments : segmentsOf segs (settingOf key sweep counts) first-buffers ≡ m .segments
+  first-segments : segmentsOf segs (settingOf key sweep layout) first-buffers ≡ m .segments
   first-segments =
-      segments-as (replicate 4096 false) segs cells store′ report bytes known (settingOf key sweep counts)
-      ∙ segments-named (λ i. false) (marked (replicate 4096 false)) segs cells store′ (counts .segments) (counts .leaves) (w .standing .segmented) (λ k h. marks-clear k)
+      segments-as (replicate LEAVES_MAX false) segs cells store′ report bytes known (settingOf key sweep layout)
+      ∙ segments-named (λ i. false) (marked (replicate LEAVES_MAX false)) segs cells store′ (layout .segments) (layout .leaves) (w .standing .segmented) (λ k h. marks-clear k)
       ∙ over .segments
 
-  first-print : length message ≡ length (printSegments (counts .separators) (m .lastCR) (m .segments))
+  first-print : length message ≡ length (printSegments (layout .separators) (m .lastCR) (m .segments))
   unfolding printMessage
   first-print = rw (w .standing .separators) (ap length (sym (w .prints)))
 
@@ -98,11 +99,11 @@ module _ (key : ℕ) (sweep : Bool) {message : Text} {m : Message} {policy : Tex
     sum = refl;
   }
 
-  first-stage : Stage (size - length message) (m .lastCR) policy segs (settingOf key sweep counts) 0 (m .segments) (running [] [] size) first-buffers (started size used)
+  first-stage : Stage (size - length message) (m .lastCR) policy segs (settingOf key sweep layout) 0 (m .segments) (running [] [] size) first-buffers (started size used)
   unfolding knownNow knownFrom
   first-stage = record {
     segments = first-segments;
-    books = record { rows = []; is = refl; count = refl; reported = reported-none report };
+    recorded = record { rows = []; is = refl; count = refl; reported = reported-none report };
     size = omega (arith, first-print, w .within);
     most = w .most;
     chained = w .chained;
@@ -110,77 +111,77 @@ module _ (key : ℕ) (sweep : Bool) {message : Text} {m : Message} {policy : Tex
     held = record {
       good = record { rows = w .standing .good .rows; room = omega (arith, wrote-length p, p .high); ends = λ i h. omega (arith, w .standing .good .ends i h, p .end) };
       known = record { good = first-known; held = record { held = λ i h. absurd (omega arith) } };
-      marks = w .standing .at-most-4096;
+      marks = w .standing .leaves-most;
     };
     rows = omega arith;
     report = omega arith;
   }
 
-  pub first-stands : Stands (size - length message) (m .lastCR) policy segs (settingOf key sweep counts) 0 (m .segments) (running [] [] size) first-buffers (Going (started size used))
+  pub first-stands : Stands (size - length message) (m .lastCR) policy segs (settingOf key sweep layout) 0 (m .segments) (running [] [] size) first-buffers (Going (started size used))
   first-stands = record { out = first-stage }
 
-module _ {message policy : Text} {size : ℕ} {counts : Counts} {segs cells : List ℕ} (w : AnyLoaded message policy size counts segs cells) where
+module _ {message policy : Text} {size : ℕ} {layout : Layout} {segs cells : List ℕ} (w : AnyLoaded message policy size layout segs cells) where
   pub run-begun : (key : ℕ) (sweep : Bool) {store store′ : Text} {used : ℕ} → Wrote store 0 message store′ used → (report bytes : Text) (known : List ℕ)
-      → Begun policy segs (settingOf key sweep counts) (buffers (replicate 4096 false) cells store′ report bytes known) (Going (started size used))
+      → Begun policy segs (settingOf key sweep layout) (buffers (replicate LEAVES_MAX false) cells store′ report bytes known) (Going (started size used))
   run-begun key sweep p report bytes known = record {
     x = size - length message;
     cr = w .message .lastCR;
     ss = w .message .segments;
-    book = running [] [] size;
+    progress = running [] [] size;
     stands = first-stands key sweep (w .loaded) p report bytes known;
   }
 
-  pub run-lent : (key : ℕ) (sweep : Bool) → Inputs policy segs (settingOf key sweep counts)
+  pub run-lent : (key : ℕ) (sweep : Bool) → Inputs policy segs (settingOf key sweep layout)
   run-lent key sweep = record {
     policy = w .loaded .policy-short;
     named = w .loaded .named;
     segmented = w .loaded .standing .segmented;
-    leaves = w .loaded .standing .at-most-4096;
+    leaves = w .loaded .standing .leaves-most;
   }
 
-  pub message-room : length message ≤ 49152
+  pub message-room : length message ≤ TEXT_MAX
   message-room = omega (arith, w .loaded .within, w .loaded .most)
 
 -- ---- the end
 
-module _ (key : ℕ) (sweep : Bool) {x : ℕ} {cr : Bool} {text : Text} {counts : Counts} {segs : List ℕ} {turns : ℕ} {ss : List Segment} {b : Book} (named : List Bool) (cells : List ℕ) (store report bytes : Text) (known : List ℕ) {c : Counters}
-    (g : Stage x cr text segs (settingOf key sweep counts) turns ss b (buffers named cells store report bytes known) c) (e : counts .«last_cr» ≡ cr) where
-  prints-as : printSegments (counts .separators) cr ss ≡ rendered counts segs cells store
+module _ (key : ℕ) (sweep : Bool) {x : ℕ} {cr : Bool} {text : Text} {layout : Layout} {segs : List ℕ} {turns : ℕ} {ss : List Segment} {b : Progress} (named : List Bool) (cells : List ℕ) (store report bytes : Text) (known : List ℕ) {c : Counters}
+    (g : Stage x cr text segs (settingOf key sweep layout) turns ss b (buffers named cells store report bytes known) c) (e : layout .«last_cr» ≡ cr) where
+  prints-as : printSegments (layout .separators) cr ss ≡ rendered layout segs cells store
   prints-as =
-      rw (← e) (ap (printSegments (counts .separators) (counts .«last_cr»)) (sym (g .segments) ∙ segments-as named segs cells store report bytes known (settingOf key sweep counts))
-      ∙ sym (rendered-named counts (marked named) segs cells store))
+      rw (← e) (ap (printSegments (layout .separators) (layout .«last_cr»)) (sym (g .segments) ∙ segments-as named segs cells store report bytes known (settingOf key sweep layout))
+      ∙ sym (rendered-named layout (marked named) segs cells store))
 
-  end-good : Good cells store (counts .leaves) (length store)
+  end-good : Good cells store (layout .leaves) (length store)
   end-good = record { rows = g .held .good .rows; room = omega arith; ends = λ i h. omega (arith, g .held .good .ends i h, g .held .good .room) }
 
-  end-long : c .size ≡ x + length (rendered counts segs cells store)
+  end-long : c .size ≡ x + length (rendered layout segs cells store)
   end-long = g .size ∙ ap (λ t. x + length t) prints-as
 
 -- what is left by all turns, f, from the first buffers
-module _ (key : ℕ) (sweep : Bool) (P : Policy) {message : Text} {m : Message} {policy : Text} {size : ℕ} {counts : Counts} {segs cells₀ : List ℕ} (w : Loaded message m policy size counts segs cells₀)
+module _ (key : ℕ) (sweep : Bool) (P : Policy) {message : Text} {m : Message} {policy : Text} {size : ℕ} {layout : Layout} {segs cells₀ : List ℕ} (w : Loaded message m policy size layout segs cells₀)
     {store₀ store₁ : Text} {used : ℕ} (p : Wrote store₀ 0 message store₁ used) (report₁ bytes₁ : Text) (known₁ : List ℕ) (named : List Bool) (cells : List ℕ) (store report bytes : Text) (known : List ℕ) (r : Done)
-    (f : (x : ℕ) (cr : Bool) (ss : List Segment) (b : Book) → Stands x cr policy segs (settingOf key sweep counts) 0 ss b (buffers (replicate 4096 false) cells₀ store₁ report₁ bytes₁ known₁) (Going (started size used))
-    → Stands x cr policy segs (settingOf key sweep counts) 130 (afterTasks key (counts .separators) P (tasksOf P) ss b) (bookTasks key (counts .separators) P (tasksOf P) ss b) (buffers named cells store report bytes known) r) where
+    (f : (x : ℕ) (cr : Bool) (ss : List Segment) (b : Progress) → Stands x cr policy segs (settingOf key sweep layout) 0 ss b (buffers (replicate LEAVES_MAX false) cells₀ store₁ report₁ bytes₁ known₁) (Going (started size used))
+    → Stands x cr policy segs (settingOf key sweep layout) 130 (afterTasks key (layout .separators) P (tasksOf P) ss b) (progressTasks key (layout .separators) P (tasksOf P) ss b) (buffers named cells store report bytes known) r) where
   abbrev ss′ : List Segment
-  ss′ = afterTasks key (counts .separators) P (tasksOf P) (m .segments) (running [] [] size)
+  ss′ = afterTasks key (layout .separators) P (tasksOf P) (m .segments) (running [] [] size)
 
-  abbrev b′ : Book
-  b′ = bookTasks key (counts .separators) P (tasksOf P) (m .segments) (running [] [] size)
+  abbrev b′ : Progress
+  b′ = progressTasks key (layout .separators) P (tasksOf P) (m .segments) (running [] [] size)
 
-  last-stands : Stands (size - length message) (m .lastCR) policy segs (settingOf key sweep counts) 130 ss′ b′ (buffers named cells store report bytes known) r
+  last-stands : Stands (size - length message) (m .lastCR) policy segs (settingOf key sweep layout) 130 ss′ b′ (buffers named cells store report bytes known) r
   last-stands = f (size - length message) (m .lastCR) (m .segments) (running [] [] size) (first-stands key sweep w p report₁ bytes₁ known₁)
 
-  run-is : redactFrom size key P m ≡ redactedAs (counts .separators) (m .lastCR) b′ ss′
+  run-is : redactFrom size key P m ≡ redactedAs (layout .separators) (m .lastCR) b′ ss′
   run-is = rw (w .standing .separators) (tasks-redact key size P m)
 
   module _ {c : Counters} (e : r ≡ Going c) where
-    last-stage : Stage (size - length message) (m .lastCR) policy segs (settingOf key sweep counts) 130 ss′ b′ (buffers named cells store report bytes known) c
+    last-stage : Stage (size - length message) (m .lastCR) policy segs (settingOf key sweep layout) 130 ss′ b′ (buffers named cells store report bytes known) c
     last-stage = (rw e at last-stands) .out
 
-    pub end-most : c .size ≤ 49152
+    pub end-most : c .size ≤ TEXT_MAX
     end-most = last-stage .most
 
-    pub end-printable : {len : ℕ} → len ≡ c .size + used - size → Printable counts segs cells store len
+    pub end-printable : {len : ℕ} → len ≡ c .size + used - size → Printable layout segs cells store len
     end-printable q = record {
       segmented = w .standing .segmented;
       named = w .named;
@@ -188,13 +189,13 @@ module _ (key : ℕ) (sweep : Bool) (P : Policy) {message : Text} {m : Message} 
       long = omega (arith, q, end-long key sweep named cells store report bytes known last-stage (w .standing .last), w .within, p .end);
     }
 
-    pub end-ran : Ran (redactFrom size key P m) counts segs cells store report c
+    pub end-ran : Ran (redactFrom size key P m) layout segs cells store report c
     unfolding redactedAs
     end-ran = record {
-      rows = last-stage .books .rows;
-      is = run-is ∙ rw (last-stage .books .is) (ap (λ u. R.done u (last-stage .books .rows)) (prints-as key sweep named cells store report bytes known last-stage (w .standing .last)));
-      count = last-stage .books .count;
-      reported = last-stage .books .reported;
+      rows = last-stage .recorded .rows;
+      is = run-is ∙ rw (last-stage .recorded .is) (ap (λ u. R.done u (last-stage .recorded .rows)) (prints-as key sweep named cells store report bytes known last-stage (w .standing .last)));
+      count = last-stage .recorded .count;
+      reported = last-stage .recorded .reported;
     }
 
   pub end-refused : {e : Refusal} → r ≡ Stopped e → (output report′ : Text) → RedactedIs (redactFrom size key P m) output output report′ (Refused e)
@@ -203,13 +204,13 @@ module _ (key : ℕ) (sweep : Bool) (P : Policy) {message : Text} {m : Message} 
 
 -- ---- `print_text`
 
-module _ {counts : Counts} {segs cells : List ℕ} {store : Text} {len : ℕ} (p : Printable counts segs cells store len) {output : Text} {c : Counters} where
+module _ {layout : Layout} {segs cells : List ℕ} {store : Text} {len : ℕ} (p : Printable layout segs cells store len) {output : Text} {c : Counters} where
   -- there is room for the text
-  pub text-fits : {output′ : Text} {k : ℕ} → Wrote output 0 (rendered counts segs cells store) output′ k → (d : R.Redacted) (report : Text) → Ran d counts segs cells store report c
+  pub text-fits : {output′ : Text} {k : ℕ} → Wrote output 0 (rendered layout segs cells store) output′ k → (d : R.Redacted) (report : Text) → Ran d layout segs cells store report c
       → RedactedIs d output output′ report (Whole len (c .«report_len») (c .rows))
   text-fits w d report g = record {
     out = record {
-      text = rendered counts segs cells store;
+      text = rendered layout segs cells store;
       rows = g .rows;
       is = g .is;
       long = p .long;
@@ -221,10 +222,10 @@ module _ {counts : Counts} {segs cells : List ℕ} {store : Text} {len : ℕ} (p
   }
 
   -- there is none
-  pub text-full : length output < len → (d : R.Redacted) (report : Text) → Ran d counts segs cells store report c → RedactedIs d output output report (Whole len (c .«report_len») (c .rows))
+  pub text-full : length output < len → (d : R.Redacted) (report : Text) → Ran d layout segs cells store report c → RedactedIs d output output report (Whole len (c .«report_len») (c .rows))
   text-full l d report g = record {
     out = record {
-      text = rendered counts segs cells store;
+      text = rendered layout segs cells store;
       rows = g .rows;
       is = g .is;
       long = p .long;

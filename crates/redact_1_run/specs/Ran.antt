@@ -11,41 +11,42 @@ use Rattle.run_model.specs.Redact as R
 use Rattle.run_model.specs.Redact.{Row}
 use Rattle.er7_table.specs.Table.{Good, Segmented, AllNamed}
 use Rattle.er7_message.specs.Parsed.{Standing}
-use Rattle.er7_message.specs.declared.message.Counts.{Counts}
+use Rattle.er7_message.specs.declared.message.Layout.{Layout}
 use Rattle.er7_render.specs.Rendered.{rendered}
 use Rattle.redact_6_row.specs.Report.{Reported}
 use Rattle.redact_5_act.specs.declared.state.Counters.{Counters}
 use Rattle.redact_1_run.specs.declared.core.Redacted.{Redacted}
 use Rattle.redact_1_run.specs.declared.core.Redacted.the-variants.{Redacted as Whole, Refused}
+use Rattle.refusal.specs.Limits.{INPUT_MAX, TEXT_MAX}
 
 -- a message that was read stands in the tables, over its bytes t; `size` bytes are there when its turn begins: its own, and those beside it
 -- in its file
-pub record Loaded (t : Text) (m : Message) (policy : Text) (size : ℕ) (counts : Counts) (segs cells : List ℕ) : Type 0 where
-  pub standing : Standing t m segs cells counts
+pub record Loaded (t : Text) (m : Message) (policy : Text) (size : ℕ) (layout : Layout) (segs cells : List ℕ) : Type 0 where
+  pub standing : Standing t m segs cells layout
   pub prints : printMessage m ≡ t
   pub chained : Chained (m .segments)
   pub first : FieldsFirst (m .segments)
-  pub named : AllNamed segs (counts .segments)
-  pub policy-short : length policy ≤ 32768
+  pub named : AllNamed segs (layout .segments)
+  pub policy-short : length policy ≤ INPUT_MAX
   pub within : length t ≤ size
-  pub most : size ≤ 49152
+  pub most : size ≤ TEXT_MAX
 
 -- some message was read
-pub record AnyLoaded (t policy : Text) (size : ℕ) (counts : Counts) (segs cells : List ℕ) : Type 0 where
+pub record AnyLoaded (t policy : Text) (size : ℕ) (layout : Layout) (segs cells : List ℕ) : Type 0 where
   pub message : Message
-  pub loaded : Loaded t message policy size counts segs cells
+  pub loaded : Loaded t message policy size layout segs cells
 
 -- the tables print as a text of len bytes
-pub record Printable (counts : Counts) (segs cells : List ℕ) (store : Text) (len : ℕ) : Type 0 where
-  pub segmented : Segmented segs (counts .segments) (counts .leaves)
-  pub named : AllNamed segs (counts .segments)
-  pub good : Good cells store (counts .leaves) (length store)
-  pub long : len ≡ length (rendered counts segs cells store)
+pub record Printable (layout : Layout) (segs cells : List ℕ) (store : Text) (len : ℕ) : Type 0 where
+  pub segmented : Segmented segs (layout .segments) (layout .leaves)
+  pub named : AllNamed segs (layout .segments)
+  pub good : Good cells store (layout .leaves) (length store)
+  pub long : len ≡ length (rendered layout segs cells store)
 
 -- the run is over: the tables print as the text, and the report holds the rows
-pub record Ran (d : R.Redacted) (counts : Counts) (segs cells : List ℕ) (store report : Text) (c : Counters) : Type 0 where
+pub record Ran (d : R.Redacted) (layout : Layout) (segs cells : List ℕ) (store report : Text) (c : Counters) : Type 0 where
   pub rows : List Row
-  pub is : d ≡ R.done (rendered counts segs cells store) rows
+  pub is : d ≡ R.done (rendered layout segs cells store) rows
   pub count : c .rows ≡ length rows
   pub reported : Reported report (c .«report_len») rows
 

@@ -14,7 +14,7 @@ use Rattle.er7_redact.specs.declared.policy.Posture.{Posture as HeldPosture}
 use Rattle.message_model.specs.Message.{Segment}
 use Rattle.policy_model.specs.Policy.{Policy}
 use Rattle.policy.specs.Line.{PostureHeld}
-use Rattle.run_model.specs.Redact.{Known, Book, knownIn, bookAll, overSegments, segmentsEvents, forPosture, forSweep}
+use Rattle.run_model.specs.Redact.{Known, Progress, knownIn, afterEvents, overSegments, segmentsEvents, forPosture, forSweep}
 use Rattle.redact_5_act.specs.declared.state.Done.{Done}
 use Rattle.redact_5_act.specs.declared.state.Done.the-variants.{Going, Stopped}
 use Rattle.redact_4_leaf.specs.Walk.{Pass}
@@ -38,20 +38,20 @@ passFor key s P (ruled r) ks = rulePass key s r
 passFor key s P judged ks = unnamedPass key s (forPosture (P .posture))
 passFor key s P swept ks = unnamedPass key s (forSweep s ks)
 
--- the segments and the book behind one task, and behind all
+-- the segments and the progress behind one task, and behind all
 unfoldable pub segmentsBy : Pass → List Segment → List Segment
 segmentsBy Q ss = overSegments (Q .leaf) ss
 
-unfoldable pub bookBy : Policy → Pass → List Segment → Book → Book
-bookBy P Q ss b = bookAll (P .sweep) (segmentsEvents (Q .says) ss) b
+unfoldable pub progressBy : Policy → Pass → List Segment → Progress → Progress
+progressBy P Q ss b = afterEvents (P .sweep) (segmentsEvents (Q .says) ss) b
 
-unfoldable pub afterTasks : ℕ → Separators → Policy → List Task → List Segment → Book → List Segment
+unfoldable pub afterTasks : ℕ → Separators → Policy → List Task → List Segment → Progress → List Segment
 afterTasks key s P [] ss b = ss
-afterTasks key s P (t ∷ ts) ss b = let Q = passFor key s P t (knownIn b) in afterTasks key s P ts (segmentsBy Q ss) (bookBy P Q ss b)
+afterTasks key s P (t ∷ ts) ss b = let Q = passFor key s P t (knownIn b) in afterTasks key s P ts (segmentsBy Q ss) (progressBy P Q ss b)
 
-unfoldable pub bookTasks : ℕ → Separators → Policy → List Task → List Segment → Book → Book
-bookTasks key s P [] ss b = b
-bookTasks key s P (t ∷ ts) ss b = let Q = passFor key s P t (knownIn b) in bookTasks key s P ts (segmentsBy Q ss) (bookBy P Q ss b)
+unfoldable pub progressTasks : ℕ → Separators → Policy → List Task → List Segment → Progress → Progress
+progressTasks key s P [] ss b = b
+progressTasks key s P (t ∷ ts) ss b = let Q = passFor key s P t (knownIn b) in progressTasks key s P ts (segmentsBy Q ss) (progressBy P Q ss b)
 
 -- ---- the turn of each
 

@@ -1,14 +1,16 @@
 // One message that was read, redacted: from its tables to its text and its report.
 use super::run::Run;
 use super::run::run_turns;
-use er7_message::message::Counts;
+use er7_message::message::Layout;
 use er7_render::render::render;
 use policy::policy::Policy;
+use redact_5_act::known::KNOWN_CELLS;
 use redact_5_act::state::Counters;
 use redact_5_act::state::Done;
 use redact_5_act::state::Setting;
-use redact_5_act::state::less;
+use redact_5_act::state::saturating_sub;
 use refusal::Refusal;
+use refusal::limits::LEAVES_MAX;
 use text::bytes::copy_at;
 ghost use Prim.Native.Nat.{_≤_};
 ghost use lib.ListN.{length};
@@ -18,6 +20,7 @@ ghost use Rattle.policy.specs.Policy.{asPolicy, PolicyHeld};
 ghost use Rattle.run_model.specs.Redact as R;
 ghost use Rattle.run_model.specs.Redact.{redactFrom};
 ghost use Rattle.redact_1_run.specs.Ran.{Loaded, AnyLoaded, Printable, Ran, RedactedIs};
+ghost use Rattle.refusal.specs.Limits.{TEXT_MAX};
 
 // The lengths of the text and of the report, and how many rows it has; or a refusal.
 pub enum Redacted {
@@ -31,7 +34,7 @@ pub enum Redacted {
 
 // Copies a message to the front of store, and returns its length.
 fn load(store: &mut [u8; 98304], message: &[u8]) -> usize
-    requires { ⌜ length (now message) ≤ 49152 ⌝ }
+    requires { ⌜ length (now message) ≤ TEXT_MAX ⌝ }
     ensures { λ r. ⌜ Wrote (now (store .entry)) 0 (now (message .entry)) (now (store .exit)) r ⌝ }
 {
     copy_at(store, 0, message)
@@ -39,7 +42,7 @@ fn load(store: &mut [u8; 98304], message: &[u8]) -> usize
 
 // Writes the text of len bytes that the tables print as to the front of output, if it has room for it.
 fn print_text(
-    counts: Counts,
+    layout: Layout,
     segs: &[usize; 2056],
     cells: &[usize],
     store: &[u8; 98304],
@@ -47,11 +50,11 @@ fn print_text(
     c: Counters,
     output: &mut [u8],
 ) -> Redacted
-    requires { ⌜ Printable counts (now segs) (now cells) (now store) len ⌝ }
-    ensures { λ r. ⌜ ((d : R.Redacted) (report : Text) → Ran d counts (now (segs .entry)) (now (cells .entry)) (now (store .entry)) report c → RedactedIs d (now (output .entry)) (now (output .exit)) report r) ⌝ }
+    requires { ⌜ Printable layout (now segs) (now cells) (now store) len ⌝ }
+    ensures { λ r. ⌜ ((d : R.Redacted) (report : Text) → Ran d layout (now (segs .entry)) (now (cells .entry)) (now (store .entry)) report c → RedactedIs d (now (output .entry)) (now (output .exit)) report r) ⌝ }
 {
     if len <= output.len() {
-        render(segs, cells, store, counts, output);
+        render(segs, cells, store, layout, output);
     }
     Redacted::Redacted {
         text_len: len,
@@ -67,27 +70,27 @@ pub fn redact_from(
     text: &[u8],
     key: u64,
     message: &[u8],
-    counts: Counts,
+    layout: Layout,
     size: usize,
     segs: &[usize; 2056],
     cells: &mut [usize],
     output: &mut [u8],
     report: &mut [u8],
 ) -> Redacted
-    requires { ⌜ PolicyHeld (now text) policy × AnyLoaded (now message) (now text) size counts (now segs) (now cells) ⌝ }
-    ensures { λ r. ⌜ ((m : Message) → Loaded (now (message .entry)) m (now (text .entry)) size counts (now (segs .entry)) (now (cells .entry)) → RedactedIs (redactFrom size key (asPolicy (now (text .entry)) policy) m) (now (output .entry)) (now (output .exit)) (now (report .exit)) r) ⌝ }
+    requires { ⌜ PolicyHeld (now text) policy × AnyLoaded (now message) (now text) size layout (now segs) (now cells) ⌝ }
+    ensures { λ r. ⌜ ((m : Message) → Loaded (now (message .entry)) m (now (text .entry)) size layout (now (segs .entry)) (now (cells .entry)) → RedactedIs (redactFrom size key (asPolicy (now (text .entry)) policy) m) (now (output .entry)) (now (output .exit)) (now (report .exit)) r) ⌝ }
 {
     let mut store = [0u8; 98304];
     let mut bytes = [0u8; 65536];
-    let mut known = [0usize; 4096];
+    let mut known = [0usize; KNOWN_CELLS];
     let used = load(&mut store, message);
-    let separators = counts.separators;
+    let separators = layout.separators;
     let on = Setting {
         key,
         separators,
         sweep: policy.sweep,
-        segments: counts.segments,
-        leaves: counts.leaves,
+        segments: layout.segments,
+        leaves: layout.leaves,
     };
     let start = Counters {
         rows: 0,
@@ -98,7 +101,7 @@ pub fn redact_from(
         known_used: 0,
     };
     let fresh = Run {
-        named: [false; 4096],
+        named: [false; LEAVES_MAX],
         done: Done::Going(start),
     };
     let ran = run_turns(
@@ -116,8 +119,8 @@ pub fn redact_from(
     let done = ran.done;
     match done {
         Done::Going(c) => {
-            let len = less(c.size + used, size);
-            print_text(counts, segs, cells, &store, len, c, output)
+            let len = saturating_sub(c.size + used, size);
+            print_text(layout, segs, cells, &store, len, c, output)
         }
         Done::Stopped(refusal) => Redacted::Refused(refusal),
     }

@@ -7,6 +7,7 @@ use redact_2_turn::turn::Job;
 use redact_2_turn::turn::Turn;
 use redact_2_turn::turn::aim_of;
 use redact_2_turn::turn::take_turn;
+use redact_5_act::known::KNOWN_CELLS;
 use redact_5_act::state::Counters;
 use redact_5_act::state::Done;
 use redact_5_act::state::Setting;
@@ -15,21 +16,22 @@ use redact_5_act::state::read_tally;
 use redact_5_act::state::write_tally;
 use redact_6_row::reach::Reach;
 use redact_6_row::reach::reach_of;
+use refusal::limits::LEAVES_MAX;
 ghost use mathlib.Core.Path.{_≡_};
 ghost use mathlib.Core.Bool.{Bool};
 ghost use mathlib.Core.List.{List};
 ghost use Prim.Native.Nat.{ℕ};
 ghost use Rattle.message_model.specs.Message.{Segment};
-ghost use Rattle.run_model.specs.Redact.{Book};
+ghost use Rattle.run_model.specs.Redact.{Progress};
 ghost use Rattle.policy.specs.Policy.{asPolicy, PolicyHeld};
 ghost use Rattle.redact_4_leaf.specs.State.{buffers};
 ghost use Rattle.redact_2_turn.specs.Turn.{passBy, JobHeld};
-ghost use Rattle.redact_1_run.specs.Turns.{RuleTurn, PostureTurn, turnOfSweep, TurnIs, ruleRow, afterTasks, bookTasks, tasksOf};
-ghost use Rattle.redact_1_run.specs.Stage.{Stands, Begun, Inputs, PoisedOr, RoomFor, NextIs, MadeRoom};
+ghost use Rattle.redact_1_run.specs.Turns.{RuleTurn, PostureTurn, turnOfSweep, TurnIs, ruleRow, afterTasks, progressTasks, tasksOf};
+ghost use Rattle.redact_1_run.specs.Stage.{Stands, Begun, Inputs, TurnReadyOr, RoomFor, NextIs, MadeRoom};
 
 // Which leaves are named, and how far the run has come.
 pub struct Run {
-    pub named: [bool; 4096],
+    pub named: [bool; LEAVES_MAX],
     pub done: Done,
 }
 
@@ -120,15 +122,15 @@ fn next_turn(
     job: Job,
     text: &[u8],
     segs: &[usize; 2056],
-    named: &mut [bool; 4096],
+    named: &mut [bool; LEAVES_MAX],
     cells: &mut [usize],
     store: &mut [u8; 98304],
     report: &mut [u8],
     bytes: &mut [u8; 65536],
-    known: &mut [usize; 4096],
+    known: &mut [usize; KNOWN_CELLS],
     done: Done,
 ) -> Done
-    requires { ⌜ JobHeld (now text) job × Inputs (now text) (now segs) (job .on) × PoisedOr (now text) (now segs) (job .on) (buffers (now named) (now cells) (now store) (now report) (now bytes) (now known)) done ⌝ }
+    requires { ⌜ JobHeld (now text) job × Inputs (now text) (now segs) (job .on) × TurnReadyOr (now text) (now segs) (job .on) (buffers (now named) (now cells) (now store) (now report) (now bytes) (now known)) done ⌝ }
     ensures { λ r. ⌜ NextIs (passBy (now (text .entry)) job) (job .on) (now (text .entry)) (now (segs .entry)) (buffers (now (named .entry)) (now (cells .entry)) (now (store .entry)) (now (report .entry)) (now (bytes .entry)) (now (known .entry))) done (buffers (now (named .exit)) (now (cells .exit)) (now (store .exit)) (now (report .exit)) (now (bytes .exit)) (now (known .exit))) r ⌝ }
 {
     match done {
@@ -167,10 +169,10 @@ pub fn run_turns(
     store: &mut [u8; 98304],
     report: &mut [u8],
     bytes: &mut [u8; 65536],
-    known: &mut [usize; 4096],
+    known: &mut [usize; KNOWN_CELLS],
 ) -> Run
     requires { ⌜ PolicyHeld (now text) policy × (on .sweep ≡ policy .sweep) × Inputs (now text) (now segs) on × Begun (now text) (now segs) on (buffers (run .named) (now cells) (now store) (now report) (now bytes) (now known)) (run .done) ⌝ }
-    ensures { λ r. ⌜ ((x : ℕ) (cr : Bool) (ss : List Segment) (b : Book) → Stands x cr (now (text .entry)) (now (segs .entry)) on 0 ss b (buffers (run .named) (now (cells .entry)) (now (store .entry)) (now (report .entry)) (now (bytes .entry)) (now (known .entry))) (run .done) → Stands x cr (now (text .entry)) (now (segs .entry)) on 130 (afterTasks (on .key) (on .separators) (asPolicy (now (text .entry)) policy) (tasksOf (asPolicy (now (text .entry)) policy)) ss b) (bookTasks (on .key) (on .separators) (asPolicy (now (text .entry)) policy) (tasksOf (asPolicy (now (text .entry)) policy)) ss b) (buffers (r .named) (now (cells .exit)) (now (store .exit)) (now (report .exit)) (now (bytes .exit)) (now (known .exit))) (r .done)) ⌝ }
+    ensures { λ r. ⌜ ((x : ℕ) (cr : Bool) (ss : List Segment) (b : Progress) → Stands x cr (now (text .entry)) (now (segs .entry)) on 0 ss b (buffers (run .named) (now (cells .entry)) (now (store .entry)) (now (report .entry)) (now (bytes .entry)) (now (known .entry))) (run .done) → Stands x cr (now (text .entry)) (now (segs .entry)) on 130 (afterTasks (on .key) (on .separators) (asPolicy (now (text .entry)) policy) (tasksOf (asPolicy (now (text .entry)) policy)) ss b) (progressTasks (on .key) (on .separators) (asPolicy (now (text .entry)) policy) (tasksOf (asPolicy (now (text .entry)) policy)) ss b) (buffers (r .named) (now (cells .exit)) (now (store .exit)) (now (report .exit)) (now (bytes .exit)) (now (known .exit))) (r .done)) ⌝ }
 {
     let mut named = run.named;
     let mut done = run.done;

@@ -15,7 +15,7 @@ use Rattle.er7.specs.declared.message.Place.{Place}
 use Rattle.er7.specs.declared.path.Path.{Path as HeldPath}
 use Rattle.message_model.specs.Message.{Label, touchable}
 use Rattle.run_model.specs.Redact.{fits}
-use Rattle.er7_table.specs.Table.{cell, placeAt, textAt, leafAt, labelAt}
+use Rattle.er7_table.specs.Table.{cell, placeAt, storedText, leafAt, labelAt}
 use Rattle.redact_6_row.specs.Reach.{reachesPlace}
 use Rattle.redact_4_leaf.specs.State.{Buffers, leaves, marked}
 use Rattle.redact_4_leaf.proofs.Acting.{live-text}
@@ -123,7 +123,7 @@ module _ (aim : Aim) (segs : List ℕ) where
 
 -- a leaf that is as another has not vanished if that has not, and its field is the same
 module _ (β₀ β : Buffers) (j : ℕ) (e : leaves β j ≡ leaves β₀ j) where
-  text-as : textAt (β .cells) (β .store) j ≡ textAt (β₀ .cells) (β₀ .store) j
+  text-as : storedText (β .cells) (β .store) j ≡ storedText (β₀ .cells) (β₀ .store) j
   unfolding leafAt
   text-as = cc
 
@@ -142,7 +142,7 @@ module _ (β₀ β : Buffers) (j : ℕ) (e : leaves β j ≡ leaves β₀ j) whe
       go true q = eqb-true (cell (β₀ .cells) j 3) 0 q
       go false q =
           let here = live-text (β .cells) (β .store) j h in
-          let gone : textAt (β₀ .cells) (β₀ .store) j ≡ none = unfold textAt in rw q in
+          let gone : storedText (β₀ .cells) (β₀ .store) j ≡ none = unfold storedText in rw q in
           let z : _≡_ {A = ℕ} 0 1 = cc (text-as) in
           absurd (omega arith)
 

@@ -17,11 +17,11 @@ use Rattle.er7_redact.specs.Policy.{Rule, asRule, reject}
 use Rattle.er7_redact.specs.declared.policy.Rule.{Rule as HeldRule}
 use Rattle.message_model.specs.Message.{Leaf, leaf, Label, touchable}
 use Rattle.message_model.specs.Value.{isEmptyOrNull}
-use Rattle.run_model.specs.Redact.{covers, after, fate, stays, act, actOr, changing, changingOr, isUnnamed, ruleLeaf, ruleEvents, unnamedLeaf, unnamedEvents, Known, forPosture, forSweep}
-use Rattle.er7_table.specs.Table.{cell, placeAt, textAt, leafAt}
+use Rattle.run_model.specs.Redact.{covers, after, effect, stays, act, actOr, changing, changingOr, isUnnamed, ruleLeaf, ruleEvents, unnamedLeaf, unnamedEvents, Known, forPosture, forSweep}
+use Rattle.er7_table.specs.Table.{cell, placeAt, storedText, leafAt}
 use Rattle.redact_6_row.specs.Reach.{reachesPlace}
 use Rattle.redact_4_leaf.specs.Walk.{Pass}
-use Rattle.redact_4_leaf.specs.State.{textOf}
+use Rattle.redact_4_leaf.specs.State.{textIn}
 use Rattle.redact_4_leaf.specs.Visit.{rulePass, unnamedPass}
 use Rattle.redact_4_leaf.proofs.Acting.{live-text}
 use Rattle.redact_4_leaf.proofs.Unnamed.{pick-none}
@@ -43,7 +43,7 @@ module _ (key : ℕ) (s : Separators) (r : Rule) (g : Label) (p : Place) (b : Bo
   gone-rule xs = record { same = refl; silent = refl }
 
   pub uncovered : (o : Option Text) (xs : List Leaf) → covers r g p ≡ false → Still (rulePass key s r) g (leaf p b o) xs
-  unfolding rulePass ruleLeaf ruleEvents fate after changing
+  unfolding rulePass ruleLeaf ruleEvents effect after changing
   uncovered none xs e = record { same = refl; silent = refl }
   uncovered (some t) xs e = record { same = rw (e, or-id b); silent = rw e }
 
@@ -88,8 +88,8 @@ sweep-empty : (s : Separators) (ks : List Known) → forSweep s ks [] ≡ none
 unfolding forSweep isEmptyOrNull isEmpty
 sweep-empty s ks = refl
 
-empty-text : (cells : List ℕ) (store : Text) (i : ℕ) → eqb (cell cells i 2) 0 ≡ true → textOf cells store i ≡ []
-unfolding textOf part
+empty-text : (cells : List ℕ) (store : Text) (i : ℕ) → eqb (cell cells i 2) 0 ≡ true → textIn cells store i ≡ []
+unfolding textIn part
 empty-text cells store i e = rw (eqb-true (cell cells i 2) 0 e)
 
 neither : (a b : Bool) → a || not b ≡ false → (a ≡ false) × (b ≡ true)
@@ -101,7 +101,7 @@ neither false false e = clash e
 
 module _ (key : ℕ) (s : Separators) (text : Text) (ks : List Known) (g : Label) (m : ℕ → Bool) (cells : List ℕ) (store : Text) (i : ℕ) (xs : List Leaf) where
   still-rule : (r : HeldRule) → works (aimAt text (r .path)) g (m i) cells i ≡ false → Still (rulePass key s (asRule text r)) g (leafAt m cells store i) xs
-  unfolding leafAt textAt isTouched
+  unfolding leafAt storedText isTouched
   still-rule r e = go (eqb (cell cells i 3) 0) (sym (works-rule text (r .path) g (m i) cells i) ∙ e)
     where
       go : (b : Bool) → b && touchable g (placeAt cells i) && reachesPlace (asPath [] (r .path)) (placeAt cells i) ≡ false → Still (rulePass key s (asRule text r)) g (leaf (placeAt cells i) (m i) (cond b (some (part store (cell cells i 1) (cell cells i 2))) none)) xs
@@ -110,8 +110,8 @@ module _ (key : ℕ) (s : Separators) (text : Text) (ks : List Known) (g : Label
 
   -- x says whether its text matters
   still-unnamed : (pick : Text → Option Action) (x : Bool) → isTouched g cells i && not (m i) && x ≡ false
-      → (x ≡ false → Still (unnamedPass key s pick) g (leaf (placeAt cells i) (m i) (some (textOf cells store i))) xs) → Still (unnamedPass key s pick) g (leafAt m cells store i) xs
-  unfolding leafAt textAt textOf isTouched
+      → (x ≡ false → Still (unnamedPass key s pick) g (leaf (placeAt cells i) (m i) (some (textIn cells store i))) xs) → Still (unnamedPass key s pick) g (leafAt m cells store i) xs
+  unfolding leafAt storedText textIn isTouched
   still-unnamed pick x e k = go (eqb (cell cells i 3) 0) (touchable g (placeAt cells i) && not (m i)) refl e
     where
       go : (b u : Bool) → touchable g (placeAt cells i) && not (m i) ≡ u → b && touchable g (placeAt cells i) && not (m i) && x ≡ false
@@ -126,12 +126,12 @@ module _ (key : ℕ) (s : Separators) (text : Text) (ks : List Known) (g : Label
   still-leaf (Collapse r) e = still-rule r e
   still-leaf (Reject a) e = still-unnamed (forPosture (reject (asAction text a))) (isNullAction (asAction text a) || not (eqb (cell cells i 2) 0)) (sym (works-unnamed true (isNullAction (asAction text a)) g (m i) cells i) ∙ e) (λ q.
       let w = neither (isNullAction (asAction text a)) (eqb (cell cells i 2) 0) q in
-      left key s (forPosture (reject (asAction text a))) g (placeAt cells i) (m i) (textOf cells store i) (asAction text a) xs (unfold forPosture in refl)
+      left key s (forPosture (reject (asAction text a))) g (placeAt cells i) (m i) (textIn cells store i) (asAction text a) xs (unfold forPosture in refl)
       (rw (empty-text cells store i (w .1)) (act-empty key s (asAction text a) (w .0))))
   still-leaf Sweep e = still-unnamed (forSweep s ks) (not (eqb (cell cells i 2) 0)) (sym (works-unnamed true false g (m i) cells i) ∙ e) (λ q.
-      unpicked key s (forSweep s ks) g (placeAt cells i) (m i) (some (textOf cells store i)) xs (λ t f.
-      let z : textOf cells store i ≡ t = cc in rw (← z, empty-text cells store i (not-false (eqb (cell cells i 2) 0) q)) (sweep-empty s ks)))
-  still-leaf Idle e = unfold leafAt in unpicked key s (λ t. none) g (placeAt cells i) (m i) (textAt cells store i) xs (λ t f. refl)
+      unpicked key s (forSweep s ks) g (placeAt cells i) (m i) (some (textIn cells store i)) xs (λ t f.
+      let z : textIn cells store i ≡ t = cc in rw (← z, empty-text cells store i (not-false (eqb (cell cells i 2) 0) q)) (sweep-empty s ks)))
+  still-leaf Idle e = unfold leafAt in unpicked key s (λ t. none) g (placeAt cells i) (m i) (storedText cells store i) xs (λ t f. refl)
 
 -- ---- the segments that a turn does not enter
 

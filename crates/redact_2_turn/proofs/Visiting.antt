@@ -10,6 +10,7 @@ use Rattle.text.specs.Text.{Text}
 use Rattle.text.proofs.Laws.{clash, and-left, and-right}
 use Rattle.text.proofs.Kept.{same-all}
 use Rattle.refusal.specs.declared.Refusal.{Refusal}
+use Rattle.refusal.specs.Limits.{INPUT_MAX, LEAVES_MAX}
 use Rattle.er7.specs.Path.{asPath, PathHeld}
 use Rattle.er7.specs.declared.message.Label.{Label as HeldLabel}
 use Rattle.er7_redact.specs.Action.{asAction, isNullAction, ActionHeld}
@@ -17,7 +18,7 @@ use Rattle.er7_redact.specs.Policy.{asRule, reject}
 use Rattle.er7_redact.specs.declared.action.Action.{Action as HeldAction}
 use Rattle.er7_redact.specs.declared.policy.Rule.{Rule as HeldRule}
 use Rattle.message_model.specs.Message.{Leaf, Label, touchable}
-use Rattle.run_model.specs.Redact.{Known, Book, stopped, bookAll, leavesEvents, act, row, covers, reach, each-leaf, isNode, isUnnamed, forPosture, forSweep}
+use Rattle.run_model.specs.Redact.{Known, Progress, stopped, afterEvents, leavesEvents, act, row, covers, reach, each-leaf, isNode, isUnnamed, forPosture, forSweep}
 use Rattle.er7_table.specs.Table.{cell, listOf, placeAt, nameAt, firstLeaf, labelAt, asLabel, Segmented, AllNamed}
 use Rattle.redact_6_row.specs.Reach.{reachesPlace}
 use Rattle.redact_5_act.specs.declared.state.Setting.{Setting}
@@ -25,7 +26,7 @@ use Rattle.redact_5_act.specs.declared.state.Counters.{Counters}
 use Rattle.redact_5_act.specs.declared.state.Done.{Done}
 use Rattle.redact_5_act.specs.declared.state.Done.the-variants.{Going, Stopped}
 use Rattle.redact_4_leaf.specs.Walk.{Pass}
-use Rattle.redact_4_leaf.specs.State.{Buffers, buffers, leaves, marked, textOf, knowing, Books, KnownHeld, Held, Ready, NodeReady, Funded, ActedOn}
+use Rattle.redact_4_leaf.specs.State.{Buffers, buffers, leaves, marked, textIn, knowing, RecordedIn, KnownHeld, Held, Ready, NodeReady, RoomLeft, ActedOn}
 use Rattle.redact_4_leaf.specs.Visit.{rulePass, unnamedPass, Visited, Visit}
 use Rattle.redact_4_leaf.specs.declared.leaf.Spot.{Spot}
 use Rattle.redact_4_leaf.proofs.Unnamed.{unnamed-acted}
@@ -38,7 +39,7 @@ use Rattle.redact_2_turn.specs.declared.turn.Aim.{Aim}
 use Rattle.redact_2_turn.specs.declared.turn.Job.{Job}
 use Rattle.redact_2_turn.proofs.Aims.{works-rule, works-unnamed, covers-here, touched-live, touched-place}
 use Rattle.redact_2_turn.proofs.Still.{Still, still-leaf, still-segment}
-use Rattle.redact_2_turn.proofs.Funds.{funded-ready, funded-node}
+use Rattle.redact_2_turn.proofs.Funds.{room-left-ready, room-left-node}
 use Rattle.redact_2_turn.proofs.Turns.{spot, passing-start, passing-more, passing-stop, passing-still, passing-done, visit-going, visit-stopped, turning-start, segment-low, segment-high, turning-more, turning-stop, turning-still, turning-done, passed-going, passed-stopped}
 use Rattle.redact_2_turn.proofs.Idle.{started, skipped-passed, ahead-rising, ordered-as}
 
@@ -80,7 +81,7 @@ module _ {text : Text} {job : Job} (h : JobHeld text job) {at : Spot} {β : Buff
     worked = rw aim-is at (v .works)
 
   ready : {turn : Turn} → job .turn ≡ turn → byNode turn ≡ false → Ready (β .cells) (β .store) (job .on .leaves) (at .index) c
-  ready e q = funded-ready (v .ahead .held) (v .ahead .funded) (ap byNode e ∙ q) inside leaf-live
+  ready e q = room-left-ready (v .ahead .held) (v .ahead .room-left) (ap byNode e ∙ q) inside leaf-live
 
   rule-covers : (r : HeldRule) → PathHeld text (r .path) → enters (aimAt text (r .path)) (asLabel (at .label)) ≡ true → works (aimAt text (r .path)) (asLabel (at .label)) (marked (β .named) (at .index)) (β .cells) (at .index) ≡ true
       → covers (asRule text r) (asLabel (at .label)) (placeAt (β .cells) (at .index)) ≡ true
@@ -94,24 +95,24 @@ module _ {text : Text} {job : Job} (h : JobHeld text job) {at : Spot} {β : Buff
 
   -- what each visit asks for
   pub apply-asks : {r : HeldRule} → job .turn ≡ Apply r
-      → ActionHeld text (r .action) × (reach (asRule text r) ≡ each-leaf) × (covers (asRule text r) (asLabel (at .label)) (placeAt (β .cells) (at .index)) ≡ true) × Ready (β .cells) (β .store) (job .on .leaves) (at .index) c × KnownHeld text (β .bytes) (β .known) c × (length text ≤ 32768) × (job .on .leaves ≤ 4096)
+      → ActionHeld text (r .action) × (reach (asRule text r) ≡ each-leaf) × (covers (asRule text r) (asLabel (at .label)) (placeAt (β .cells) (at .index)) ≡ true) × Ready (β .cells) (β .store) (job .on .leaves) (at .index) c × KnownHeld text (β .bytes) (β .known) c × (length text ≤ INPUT_MAX) × (job .on .leaves ≤ LEAVES_MAX)
   unfolding aimOf byNode
   apply-asks {r} e =
       let t = turn-held e in
       (t .1, t .2, rule-covers r (t .0) (entered e) (worked e), ready e refl, v .ahead .held .known, h .policy, v .ahead .held .marks)
 
   pub collapse-asks : {r : HeldRule} → job .turn ≡ Collapse r
-      → ActionHeld text (r .action) × (isNode (reach (asRule text r)) ≡ true) × (covers (asRule text r) (asLabel (at .label)) (placeAt (β .cells) (at .index)) ≡ true) × NodeReady (β .cells) (β .store) (job .on .leaves) (at .index) (at .end) c × KnownHeld text (β .bytes) (β .known) c × (length text ≤ 32768) × (job .on .leaves ≤ 4096)
+      → ActionHeld text (r .action) × (isNode (reach (asRule text r)) ≡ true) × (covers (asRule text r) (asLabel (at .label)) (placeAt (β .cells) (at .index)) ≡ true) × NodeReady (β .cells) (β .store) (job .on .leaves) (at .index) (at .end) c × KnownHeld text (β .bytes) (β .known) c × (length text ≤ INPUT_MAX) × (job .on .leaves ≤ LEAVES_MAX)
   unfolding aimOf byNode
   collapse-asks {r} e =
       let t = turn-held e in
-      (t .1, t .2, rule-covers r (t .0) (entered e) (worked e), funded-node (v .ahead .held) (v .ahead .funded) (ap byNode e) (v .inside) (v .ends) leaf-live, v .ahead .held .known, h .policy, v .ahead .held .marks)
+      (t .1, t .2, rule-covers r (t .0) (entered e) (worked e), room-left-node (v .ahead .held) (v .ahead .room-left) (ap byNode e) (v .inside) (v .ends) leaf-live, v .ahead .held .known, h .policy, v .ahead .held .marks)
 
-  pub reject-asks : {a : HeldAction} → job .turn ≡ Reject a → ActionHeld text a × Ready (β .cells) (β .store) (job .on .leaves) (at .index) c × (length text ≤ 32768)
+  pub reject-asks : {a : HeldAction} → job .turn ≡ Reject a → ActionHeld text a × Ready (β .cells) (β .store) (job .on .leaves) (at .index) c × (length text ≤ INPUT_MAX)
   unfolding byNode
   reject-asks e = (turn-held e, ready e refl, h .policy)
 
-  pub sweep-asks : job .turn ≡ Sweep → KnownHeld text (β .bytes) (β .known) c × Ready (β .cells) (β .store) (job .on .leaves) (at .index) c × (length text ≤ 32768) × (job .on .leaves ≤ 4096)
+  pub sweep-asks : job .turn ≡ Sweep → KnownHeld text (β .bytes) (β .known) c × Ready (β .cells) (β .store) (job .on .leaves) (at .index) c × (length text ≤ INPUT_MAX) × (job .on .leaves ≤ LEAVES_MAX)
   unfolding byNode
   sweep-asks e = (v .ahead .held .known, ready e refl, h .policy, v .ahead .held .marks)
 
@@ -126,7 +127,7 @@ module _ {text : Text} {job : Job} (h : JobHeld text job) {at : Spot} {β : Buff
 
   -- what each visit answers, of the turn's pass
   pub rejected : {a : HeldAction} → job .turn ≡ Reject a → {cells′ : List ℕ} {store′ report′ bytes′ : Text} (r : Done)
-      → ActedOn (act (job .on .key) (job .on .separators) (asAction text a) (textOf (β .cells) (β .store) (at .index))) (row (asLabel (at .label)) (placeAt (β .cells) (at .index)) (asAction text a)) (job .on .leaves) (at .index) (β .cells) (β .store) (β .report) (β .bytes) c cells′ store′ report′ bytes′ r
+      → ActedOn (act (job .on .key) (job .on .separators) (asAction text a) (textIn (β .cells) (β .store) (at .index))) (row (asLabel (at .label)) (placeAt (β .cells) (at .index)) (asAction text a)) (job .on .leaves) (at .index) (β .cells) (β .store) (β .report) (β .bytes) c cells′ store′ report′ bytes′ r
       → Visit (passBy text job) (byNode (job .turn)) (job .on) at text β c (buffers (β .named) cells′ store′ report′ bytes′ (β .known)) r
   unfolding passBy passOf byNode
   rejected {a} e r d =
@@ -175,7 +176,7 @@ module _ {text : Text} {job : Job} (h : JobHeld text job) (at : Spot) (β₀ : B
   }
 
   pub skip-first : Ahead text job (at .index) β₀ c₀ → {s : ℕ} → StartAt (job .aim .path .field) (at .index) (at .end) s
-      → (s ≤ at .end) × (at .end * 8 ≤ length (β₀ .cells)) × (at .end ≤ 4096) × Rising (β₀ .cells) s (at .end)
+      → (s ≤ at .end) × (at .end * 8 ≤ length (β₀ .cells)) × (at .end ≤ LEAVES_MAX) × Rising (β₀ .cells) s (at .end)
   skip-first a t =
       (t .high, omega (arith, p .ends, a .held .good .rows), omega (arith, p .ends, a .held .marks), ahead-rising β₀ β₀ (t .low) (λ j x y. refl) (p .ordered))
 
@@ -183,11 +184,11 @@ module _ {text : Text} {job : Job} (h : JobHeld text job) (at : Spot) (β₀ : B
   standing-start a t k =
       let d = started (job .aim) (asLabel (at .label)) (β₀ .named) (β₀ .cells) (p .ordered) t in
       skipped-to k (passing-still (passBy text job) (byNode (job .turn)) (job .on) (at .label) (at .index) (at .end) text β₀ c₀ (p .ends) (d .low) (d .high) (λ j x y. still-here β₀ c₀ j _ (d .idle j x y))
-      (passing-start (passBy text job) (byNode (job .turn)) (job .on) (at .label) (at .index) (at .end) text β₀ c₀ (p .order) (a .held) (a .funded)))
+      (passing-start (passBy text job) (byNode (job .turn)) (job .on) (at .label) (at .index) (at .end) text β₀ c₀ (p .order) (a .held) (a .room-left)))
 
   module _ {i : ℕ} {β : Buffers} {c : Counters} (w : Standing text job at i β₀ c₀ β c) (l : i < at .end) where
     pub standing-visitable : Visitable text job (spot (at .label) (at .end) i) β c
-    standing-visitable = record { enters = p .enters; works = w .here l; inside = l; ends = p .ends; ahead = record { held = w .passing .held; funded = w .passing .funded } }
+    standing-visitable = record { enters = p .enters; works = w .here l; inside = l; ends = p .ends; ahead = record { held = w .passing .held; room-left = w .passing .room-left } }
 
     pub standing-rising : {β′ : Buffers} {r : Done} {c′ : Counters} → Visit (passBy text job) (byNode (job .turn)) (job .on) (spot (at .label) (at .end) i) text β c β′ r → r ≡ Going c′ → Rising (β′ .cells) (i + 1) (at .end)
     standing-rising {β′} v e =
@@ -195,7 +196,7 @@ module _ {text : Text} {job : Job} (h : JobHeld text job) (at : Spot) (β₀ : B
         ahead-rising β₀ β′ (q .low) (λ j a b. q .ahead j a (omega (arith, p .ends))) (p .ordered)
 
     pub skip-next : {β′ : Buffers} {r : Done} {c′ : Counters} → Visit (passBy text job) (byNode (job .turn)) (job .on) (spot (at .label) (at .end) i) text β c β′ r → r ≡ Going c′
-        → (i + 1 ≤ at .end) × (at .end * 8 ≤ length (β′ .cells)) × (at .end ≤ 4096) × Rising (β′ .cells) (i + 1) (at .end)
+        → (i + 1 ≤ at .end) × (at .end * 8 ≤ length (β′ .cells)) × (at .end ≤ LEAVES_MAX) × Rising (β′ .cells) (i + 1) (at .end)
     skip-next v e =
         let d = visit-going v e .held in
         (omega arith, omega (arith, p .ends, d .good .rows), omega (arith, p .ends, d .marks), standing-rising v e)
@@ -236,7 +237,7 @@ module _ {text : Text} {job : Job} (h : JobHeld text job) (segs : List ℕ) (z :
   }
 
   pub coming-start : Ahead text job 0 β₀ c₀ → {k : ℕ} → SegmentsSkipped (job .aim) segs 0 (job .on .segments) k → Coming text job segs k β₀ c₀ β₀ c₀
-  coming-start a s = coming-to s (turning-start (passBy text job) (byNode (job .turn)) (job .on) segs text z β₀ c₀ (a .held) (a .funded))
+  coming-start a s = coming-to s (turning-start (passBy text job) (byNode (job .turn)) (job .on) segs text z β₀ c₀ (a .held) (a .room-left))
 
   module _ {k : ℕ} {β : Buffers} {c : Counters} (w : Coming text job segs k β₀ c₀ β c) (l : k < job .on .segments) {at : Spot} (q : SpotIs segs k at) where
     pub coming-passable : AllOrdered segs (β₀ .cells) (job .on .segments) → Passable job at (β .cells)
@@ -251,7 +252,7 @@ module _ {text : Text} {job : Job} (h : JobHeld text job) (segs : List ℕ) (z :
         }
 
     pub coming-ahead : Ahead text job (at .index) β c
-    coming-ahead = record { held = w .turning .held; funded = rw (q .first) (w .turning .funded) }
+    coming-ahead = record { held = w .turning .held; room-left = rw (q .first) (w .turning .room-left) }
 
     pub coming-more : {β′ : Buffers} {r : Done} {c′ : Counters} → LeavesPassed (passBy text job) (byNode (job .turn)) (job .on) at text β c β′ r → r ≡ Going c′
         → {j : ℕ} → SegmentsSkipped (job .aim) segs (k + 1) (job .on .segments) j → Coming text job segs j β₀ c₀ β′ c′

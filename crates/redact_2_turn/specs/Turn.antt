@@ -23,6 +23,7 @@ use Rattle.redact_2_turn.specs.declared.turn.Turn.{Turn}
 use Rattle.redact_2_turn.specs.declared.turn.Turn.the-variants.{Apply, Collapse, Reject, Sweep, Idle}
 use Rattle.redact_2_turn.specs.declared.turn.Aim.{Aim}
 use Rattle.redact_2_turn.specs.declared.turn.Job.{Job}
+use Rattle.refusal.specs.Limits.{INPUT_MAX}
 
 -- ---- the pass of a turn; replacements stand in `text`, and ks are the values that are known
 
@@ -102,4 +103,4 @@ TurnHeld text Idle = Unit {0}
 pub record JobHeld (text : Text) (job : Job) : Type 0 where
   pub held : TurnHeld text (job .turn)
   pub aim : job .aim ≡ aimOf text (job .turn)
-  pub policy : length text ≤ 32768
+  pub policy : length text ≤ INPUT_MAX

@@ -12,11 +12,13 @@ use redact_4_leaf::leaf::act_on;
 use redact_4_leaf::leaf::mark;
 use redact_4_leaf::visit::apply_leaf;
 use redact_4_leaf::visit::sweep_leaf;
+use redact_5_act::known::KNOWN_CELLS;
 use redact_5_act::state::Setting;
 use redact_5_act::state::Step;
 use redact_6_row::reach::index_fits;
 use redact_6_row::reach::reaches_place;
 use redact_6_row::reach::touchable;
+use refusal::limits::LEAVES_MAX;
 ghost use mathlib.Core.Path.{_≡_};
 ghost use mathlib.Core.Bool.{true};
 ghost use Prim.Native.Nat.{_+_, _*_, _≤_, _<_};
@@ -30,6 +32,7 @@ ghost use Rattle.redact_2_turn.specs.Turn as Turns;
 ghost use Rattle.redact_2_turn.specs.Turn.{noPath, aimAt, aimUnnamed, aimOf, works, byNode, passBy, TurnHeld, JobHeld};
 ghost use Rattle.redact_2_turn.specs.Ordered.{Rising, AllOrdered, StartAt, isBehind, Skipped, SegmentsSkipped, spotAt, SpotIs};
 ghost use Rattle.redact_2_turn.specs.Taken.{Ahead, Visitable, Passable, LeavesPassed, TurnTaken};
+ghost use Rattle.refusal.specs.Limits.{LEAVES_MAX};
 
 // A rule on each leaf, a rule on nodes, a rejecting posture, the sweep, or nothing.
 pub enum Turn {
@@ -204,8 +207,15 @@ fn is_behind(field: u64, i: usize, cells: &[usize]) -> bool
 }
 
 // The index of the next leaf of the segment g, from index i on, with which an aim has to do; or end.
-fn skip(aim: Aim, g: Label, named: &[bool; 4096], cells: &[usize], i: usize, end: usize) -> usize
-    requires { ⌜ (i ≤ end) × (end * 8 ≤ length (now cells)) × (end ≤ 4096) × Rising (now cells) i end ⌝ }
+fn skip(
+    aim: Aim,
+    g: Label,
+    named: &[bool; LEAVES_MAX],
+    cells: &[usize],
+    i: usize,
+    end: usize,
+) -> usize
+    requires { ⌜ (i ≤ end) × (end * 8 ≤ length (now cells)) × (end ≤ LEAVES_MAX) × Rising (now cells) i end ⌝ }
     ensures { λ r. ⌜ Skipped aim (asLabel g) (now (named .entry)) (now (cells .entry)) i end r ⌝ }
 {
     let mut j = i;
@@ -226,12 +236,12 @@ fn visit(
     job: Job,
     at: Spot,
     text: &[u8],
-    named: &mut [bool; 4096],
+    named: &mut [bool; LEAVES_MAX],
     cells: &mut [usize],
     store: &mut [u8; 98304],
     report: &mut [u8],
     bytes: &mut [u8; 65536],
-    known: &mut [usize; 4096],
+    known: &mut [usize; KNOWN_CELLS],
     tally: &mut [usize; 6],
 ) -> Step
     requires { ⌜ JobHeld (now text) job × Visitable (now text) job at (buffers (now named) (now cells) (now store) (now report) (now bytes) (now known)) (counted (now tally)) ⌝ }
@@ -290,12 +300,12 @@ fn pass_leaves(
     job: Job,
     at: Spot,
     text: &[u8],
-    named: &mut [bool; 4096],
+    named: &mut [bool; LEAVES_MAX],
     cells: &mut [usize],
     store: &mut [u8; 98304],
     report: &mut [u8],
     bytes: &mut [u8; 65536],
-    known: &mut [usize; 4096],
+    known: &mut [usize; KNOWN_CELLS],
     tally: &mut [usize; 6],
 ) -> Step
     requires { ⌜ JobHeld (now text) job × Passable job at (now cells) × Ahead (now text) job (at .index) (buffers (now named) (now cells) (now store) (now report) (now bytes) (now known)) (counted (now tally)) ⌝ }
@@ -353,12 +363,12 @@ pub fn take_turn(
     job: Job,
     text: &[u8],
     segs: &[usize; 2056],
-    named: &mut [bool; 4096],
+    named: &mut [bool; LEAVES_MAX],
     cells: &mut [usize],
     store: &mut [u8; 98304],
     report: &mut [u8],
     bytes: &mut [u8; 65536],
-    known: &mut [usize; 4096],
+    known: &mut [usize; KNOWN_CELLS],
     tally: &mut [usize; 6],
 ) -> Step
     requires { ⌜ JobHeld (now text) job × AllNamed (now segs) (job .on .segments) × Segmented (now segs) (job .on .segments) (job .on .leaves) × AllOrdered (now segs) (now cells) (job .on .segments) × Ahead (now text) job 0 (buffers (now named) (now cells) (now store) (now report) (now bytes) (now known)) (counted (now tally)) ⌝ }

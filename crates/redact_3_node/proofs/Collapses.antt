@@ -1,39 +1,40 @@
 -- Laws of a node that collapses at its first leaf. Assumes nothing.
-use mathlib.Core.Path.{_≡_, refl, sym, ap, _∙_}
+use mathlib.Core.Path.{_≡_, ap}
 use mathlib.Core.Bool.{Bool, true, false, _&&_}
-use mathlib.Core.List.{List, [], _∷_}
-use Prim.Native.Nat.{ℕ, suc, _+_, _-_, _*_, _≤_, _<_}
+use mathlib.Core.List.{List}
+use Prim.Native.Nat.{ℕ, suc, _+_, _-_, _*_, _≤_}
 use native.Mathlib.Omega.{arith}
 use lib.Dec.{eqb}
 use lib.ListN.{length, take, drop}
-use Rattle.text.specs.Text.{Text, SameTo}
+use Rattle.text.specs.Text.{Text}
 use Rattle.text.proofs.Laws.{clash}
 use Rattle.text.proofs.Runs.{part-slice}
 use Rattle.text.proofs.Kept.{same-all}
 use Rattle.refusal.specs.declared.Refusal.the-variants.{MessageTooLong}
+use Rattle.refusal.specs.Limits.{TEXT_MAX}
 use Rattle.message_model.specs.Value.{NULL, isNull}
-use Rattle.run_model.specs.Redact.{Reach, Event, stays, becomes, collapse, size, Row}
+use Rattle.run_model.specs.Redact.{Reach, Event, becomes, collapse, size, Row}
 use Rattle.er7_value.proofs.Decoding.{null-length}
 use Rattle.er7_table.specs.Table.{cell}
 use Rattle.er7_render.specs.Stored.{liveSum}
 use Rattle.er7_render.proofs.Sums.{sum-step, sum-parts, sum-each}
-use Rattle.redact_5_act.specs.Act.{Became, Acted}
-use Rattle.redact_5_act.specs.declared.act.Fate.{Fate as HeldFate}
-use Rattle.redact_5_act.specs.declared.act.Fate.the-variants.{Stays, Becomes, TooLong}
+use Rattle.redact_5_act.specs.Act.{Acted}
+use Rattle.redact_5_act.specs.declared.act.Effect.{Effect as HeldEffect}
+use Rattle.redact_5_act.specs.declared.act.Effect.the-variants.{Stays, Becomes, TooLong}
 use Rattle.redact_5_act.specs.declared.state.Counters.{Counters}
 use Rattle.redact_5_act.specs.declared.state.Done.{Done}
 use Rattle.redact_5_act.specs.declared.state.Done.the-variants.{Going, Stopped}
-use Rattle.redact_4_leaf.specs.State.{textOf, Countable, Entered, Learning, NodeReady, Change}
+use Rattle.redact_4_leaf.specs.State.{textIn, Countable, ChangePut, Learning, NodeReady, Change}
 use Rattle.redact_4_leaf.proofs.Acting.{node-live, stayed, entered, overran}
 use Rattle.redact_4_leaf.proofs.Rules.{learnt-going}
-use Rattle.redact_3_node.specs.Node.{nodeEnd, AllLegible, liveTexts, leafSize, leavesSize, already}
+use Rattle.redact_3_node.specs.Node.{nodeEnd, AllLearnable, liveTexts, leafSize, leavesSize, already}
 use Rattle.redact_3_node.proofs.Nodes.{end-low, end-high, size-live, nil-live, leaves-most}
 
 -- ---- whether the node is already one null leaf, and the bytes that go
 
 module _ (cells : List ℕ) (store : Text) (i e : ℕ) {rest : ℕ} (q : rest ≡ leavesSize cells (i + 1) (e - (i + 1))) where
   pub already-is : {b : Bool} → b ≡ isNull (take (cell cells i 1 + cell cells i 2 - cell cells i 1) (drop (cell cells i 1) store)) → b && eqb rest 0 ≡ already cells store i e
-  unfolding already textOf
+  unfolding already textIn
   already-is h =
       let n : i + 1 ≡ suc i = omega arith in
       rw (h, q, n, part-slice store (cell cells i 1) (cell cells i 2), nil-live cells store (suc i) (e - suc i))
@@ -48,24 +49,24 @@ module _ (cells : List ℕ) (store : Text) (i e : ℕ) {rest : ℕ} (q : rest �
 
 -- ---- the null in the place of its first leaf
 
-null-few : {went : ℕ} {c : Counters} {store store′ : Text} {r : HeldFate} {k : ℕ} → Acted (becomes NULL) went c store store′ r → r ≡ Becomes k → k ≤ 2
+null-few : {went : ℕ} {c : Counters} {store store′ : Text} {r : HeldEffect} {k : ℕ} → Acted (becomes NULL) went c store store′ r → r ≡ Becomes k → k ≤ 2
 null-few a q = let w = (rw q at a) .out in let e : NULL ≡ w .text = cc (w .is) in omega (arith, w .long, null-length, ap length e)
 
 module _ {cells : List ℕ} {store : Text} {n i end : ℕ} {c₀ c : Counters} (e : c ≡ c₀) (g : NodeReady cells store n i end c₀) where
-  pub null-room : (c .size ≤ 49152) × (c .used + 2 ≤ 98304)
-  null-room = rw e (g .most, g .room)
+  pub null-room : c .used + 2 ≤ 98304
+  null-room = rw e (g .room)
 
-  pub null-countable : {went : ℕ} {store′ : Text} {r : HeldFate} → Acted (becomes NULL) went c store store′ r → {k : ℕ} → r ≡ Becomes k → Countable k c₀
+  pub null-countable : {went : ℕ} {store′ : Text} {r : HeldEffect} → Acted (becomes NULL) went c store store′ r → {k : ℕ} → r ≡ Becomes k → Countable k c₀
   null-countable a q = record { rows = g .rows; report = g .report; size = g .most; used = omega (arith, g .room); text = omega (arith, null-few a q) }
 
-  module _ (ρ : Row) (went : ℕ) (report : Text) {store′ : Text} {r : HeldFate} (a : Acted (becomes NULL) went c store store′ r) where
+  module _ (ρ : Row) (went : ℕ) (report : Text) {store′ : Text} {r : HeldEffect} (a : Acted (becomes NULL) went c store store′ r) where
     nulled : Acted (becomes NULL) went c₀ store store′ r
     nulled = rw e at a
 
     pub null-stays : r ≡ Stays → Change true (becomes NULL) ρ went n i cells store report c₀ cells store′ report (Going c₀)
     null-stays q = record { out = stayed (node-live g) true ρ went ((rw q at nulled) .out) }
 
-    pub null-becomes : {k : ℕ} → r ≡ Becomes k → {cells′ : List ℕ} {report′ : Text} {c′ : Counters} → Entered ρ i went k cells report c₀ cells′ report′ c′
+    pub null-becomes : {k : ℕ} → r ≡ Becomes k → {cells′ : List ℕ} {report′ : Text} {c′ : Counters} → ChangePut ρ i went k cells report c₀ cells′ report′ c′
         → Change true (becomes NULL) ρ went n i cells store report c₀ cells′ store′ report′ (Going c′)
     null-becomes q w = record { out = entered (node-live g) true ρ went ((rw q at nulled) .out) w (λ x. clash x) (λ x. null-few nulled q) }
 
@@ -104,8 +105,8 @@ ready-node r {cells} {i = i} {end = end} {e = e} g l =
       report = g .report;
     }
 
-pub ready-legible : {cells : List ℕ} {store : Text} {n i end : ℕ} {c : Counters} → NodeReady cells store n i end c → AllLegible cells i end
-ready-legible {cells} {i = i} {end = end} g = record {
+pub ready-learnable : {cells : List ℕ} {store : Text} {n i end : ℕ} {c : Counters} → NodeReady cells store n i end c → AllLearnable cells i end
+ready-learnable {cells} {i = i} {end = end} g = record {
   order = omega (arith, g .inside);
   rows = omega (arith, g .ends, g .good .rows);
   inside = λ j h. omega (arith, g .good .ends j (omega (arith, g .ends)), g .room);
@@ -131,14 +132,14 @@ ready-learnt g m e =
 
 -- the leaves behind the first
 module _ {cells : List ℕ} {store : Text} {n i end : ℕ} {c : Counters} (g : NodeReady cells store n i end c) where
-  rest-sum : liveSum cells (i + 1) (end - (i + 1)) ≤ 49152
+  rest-sum : liveSum cells (i + 1) (end - (i + 1)) ≤ TEXT_MAX
   rest-sum =
       let m : i + 1 ≡ suc i = omega arith in
       let s = sum-step cells i end (g .inside) in
       rw m (omega (arith, s, g .texts))
 
-  pub rest-ready : (i + 1 ≤ end) × (end * 8 ≤ length cells) × (liveSum cells (i + 1) (end - (i + 1)) ≤ 49152)
+  pub rest-ready : (i + 1 ≤ end) × (end * 8 ≤ length cells) × (liveSum cells (i + 1) (end - (i + 1)) ≤ TEXT_MAX)
   rest-ready = (omega (arith, g .inside), omega (arith, g .ends, g .good .rows), rest-sum)
 
-  pub rest-fits : leavesSize cells (i + 1) (end - (i + 1)) ≤ 49152 + length cells
+  pub rest-fits : leavesSize cells (i + 1) (end - (i + 1)) ≤ TEXT_MAX + length cells
   rest-fits = omega (arith, rest-sum, leaves-most cells (i + 1) (end - (i + 1)), g .ends, g .good .rows)

@@ -14,17 +14,17 @@ use Rattle.er7_redact.specs.declared.action.Action.the-variants as Held
 use Rattle.er7_redact.specs.Action.{Action, isKeep, asAction, ActionHeld}
 use Rattle.refusal.specs.declared.Refusal.{Refusal}
 use Rattle.message_model.specs.Value.{isEmptyOrNull, value}
-use Rattle.run_model.specs.Redact.{Event, learning, bookAll}
+use Rattle.run_model.specs.Redact.{Event, learning, afterEvents}
 use Rattle.er7_table.specs.Table.{cell}
 use Rattle.redact_5_act.specs.Known.{actionAt, GoodKnown, ActionsHeld}
 use Rattle.redact_5_act.specs.declared.state.Counters.{Counters}
 use Rattle.redact_5_act.specs.declared.state.Done.{Done}
 use Rattle.redact_5_act.specs.declared.state.Done.the-variants.{Going, Stopped}
-use Rattle.redact_4_leaf.specs.State.{textOf, KnownHeld, LearntTo, Learning, Readable}
+use Rattle.redact_4_leaf.specs.State.{textIn, KnownHeld, LearntTo, Learning, Readable}
 use Rattle.redact_4_leaf.proofs.Acting.{live-length}
 use Rattle.redact_4_leaf.proofs.Rules.{learnt-going, learnt-stopped}
-use Rattle.redact_4_leaf.proofs.Walks.{book-append, stopped-stays}
-use Rattle.redact_3_node.specs.Node.{liveTexts, Legible, AllLegible}
+use Rattle.redact_4_leaf.proofs.Walks.{progress-append, stopped-stays}
+use Rattle.redact_3_node.specs.Node.{liveTexts, Learnable, AllLearnable}
 use Rattle.redact_3_node.proofs.Nodes.{by-bool, live-append}
 
 -- ---- one list of texts behind another
@@ -46,14 +46,14 @@ module _ {es : List Event} {sweep : Bool} {text bytes bytes′ : Text} {known kn
     size = m .size ∙ l .size;
     used = m .used ∙ l .used;
     held = m .held;
-    book = λ report b k. rw (book-append sweep es fs b) (m .book report (bookAll sweep es b) (l .book report b k));
+    progress = λ report b k. rw (progress-append sweep es fs b) (m .progress report (afterEvents sweep es b) (l .progress report b k));
   }
 
   learnt-stop : {fs : List Event} (gs : List Event) {bytes″ : Text} {known″ : List ℕ} {e : Refusal} → Learning fs sweep text bytes′ known′ c′ bytes″ known″ (Stopped e)
       → Learning (es ++ (fs ++ gs)) sweep text bytes known c bytes″ known″ (Stopped e)
   learnt-stop {fs} gs {e = e} m = record {
     out = λ report b k.
-        rw (book-append sweep es (fs ++ gs) b, book-append sweep fs gs (bookAll sweep es b), m .out report (bookAll sweep es b) (l .book report b k))
+        rw (progress-append sweep es (fs ++ gs) b, progress-append sweep fs gs (afterEvents sweep es b), m .out report (afterEvents sweep es b) (l .progress report b k))
         (stopped-stays sweep gs e);
   }
 
@@ -113,8 +113,8 @@ pub record LearntBefore (a : HeldAction) (s : Separators) (sweep : Bool) (first 
 
 learnt-none : (s : Separators) (a : Action) (sweep : Bool) (cells : List ℕ) (store : Text) (i : ℕ) {text bytes : Text} {known : List ℕ} {c : Counters}
     → KnownHeld text bytes known c → LearntTo (learning s a (liveTexts cells store i 0)) sweep text bytes known c bytes known c
-unfolding liveTexts learning bookAll
-learnt-none s a sweep cells store i h = record { rows = refl; report = refl; size = refl; used = refl; held = h; book = λ report b k. k }
+unfolding liveTexts learning afterEvents
+learnt-none s a sweep cells store i h = record { rows = refl; report = refl; size = refl; used = refl; held = h; progress = λ report b k. k }
 
 pub before-start : {a : HeldAction} {s : Separators} {sweep : Bool} {first end : ℕ} {cells : List ℕ} {store bytes : Text} {known : List ℕ} {c : Counters}
     → first ≤ end → LearntBefore a s sweep first end cells store bytes known c bytes known c first
@@ -184,13 +184,13 @@ module _ (cells : List ℕ) (store : Text) (i : ℕ) where
       none-one : (cell cells i 3 ≡ 0 → ⊥) → liveTexts cells store i 1 ≡ liveTexts cells store (suc i) 0
       none-one e = unfold liveTexts in rw (ne-eqb (cell cells i 3) 0 e)
 
-  pub one-live : cell cells i 3 ≡ 0 → textOf cells store i ∷ [] ≡ liveTexts cells store i 1
+  pub one-live : cell cells i 3 ≡ 0 → textIn cells store i ∷ [] ≡ liveTexts cells store i 1
   unfolding liveTexts
   one-live e = sym (rw e)
 
-pub one-readable : {cells bytes : Text} {known : List ℕ} {i : ℕ} {c : Counters} → Legible cells bytes known i c → cell cells i 3 ≡ 0 → Readable cells bytes known i c
+pub one-readable : {cells bytes : Text} {known : List ℕ} {i : ℕ} {c : Counters} → Learnable cells bytes known i c → cell cells i 3 ≡ 0 → Readable cells bytes known i c
 one-readable {cells} {i = i} l e = record { row = l .row; inside = l .inside; short = rw (live-length cells i e) at (l .short); good = l .good }
 
-pub all-legible : {cells : List ℕ} {bytes : Text} {known : List ℕ} {first end i : ℕ} {c : Counters} → AllLegible cells first end → first ≤ i → i < end
-    → GoodKnown bytes known (c .known) (c .«known_used») → Legible cells bytes known i c
-all-legible l h k g = record { row = omega (arith, l .rows); inside = l .inside _ k; short = l .short _ h k; good = g }
+pub all-learnable : {cells : List ℕ} {bytes : Text} {known : List ℕ} {first end i : ℕ} {c : Counters} → AllLearnable cells first end → first ≤ i → i < end
+    → GoodKnown bytes known (c .known) (c .«known_used») → Learnable cells bytes known i c
+all-learnable l h k g = record { row = omega (arith, l .rows); inside = l .inside _ k; short = l .short _ h k; good = g }

@@ -13,9 +13,10 @@ use Rattle.er7.specs.declared.message.Place.{Place}
 use Rattle.er7.specs.declared.separators.Separators.{Separators}
 use Rattle.er7_redact.specs.Policy.{Rule}
 use Rattle.refusal.specs.declared.Refusal.{Refusal}
+use Rattle.refusal.specs.Limits.{LEAVES_MAX}
 use Rattle.message_model.specs.Message.{Leaf, leaf, Label}
 use Rattle.message_model.specs.Value.{isNull}
-use Rattle.run_model.specs.Redact.{Reach, each-leaf, each-node, Depth, reach, isNode, covers, starts, restOfNode, isNil, after, collapse, fateIn, fate, ruleLeaf, ruleEvents, learning, changing, took, size, row, bookAll}
+use Rattle.run_model.specs.Redact.{Reach, each-leaf, each-node, Depth, reach, isNode, covers, starts, restOfNode, isNil, after, collapse, effectIn, effect, ruleLeaf, ruleEvents, learning, changing, textsAt, size, row, afterEvents}
 use Rattle.er7_table.specs.Table.{cell, listOf, placeAt, leafAt, asLabel, Good}
 use Rattle.er7_render.specs.Stored.{Vanished}
 use Rattle.er7_render.proofs.Slots.{gone-good}
@@ -25,7 +26,7 @@ use Rattle.redact_5_act.specs.declared.state.Setting.{Setting}
 use Rattle.redact_5_act.specs.declared.state.Counters.{Counters}
 use Rattle.redact_5_act.specs.declared.state.Done.{Done}
 use Rattle.redact_5_act.specs.declared.state.Done.the-variants.{Going, Stopped}
-use Rattle.redact_4_leaf.specs.State.{buffers, textOf, marked, KnownHeld, LearntTo, Learning, NodeReady, Change}
+use Rattle.redact_4_leaf.specs.State.{buffers, textIn, marked, KnownHeld, LearntTo, Learning, NodeReady, Change}
 use Rattle.redact_4_leaf.specs.Visit.{rulePass, saidOf, Visit}
 use Rattle.redact_4_leaf.specs.declared.leaf.Spot.{Spot}
 use Rattle.redact_4_leaf.proofs.Acting.{live-text, node-live}
@@ -39,22 +40,22 @@ use Rattle.redact_3_node.proofs.Nodes.{rest-live, end-low, live-here}
 module _ (key : ℕ) (s : Separators) (r : Rule) (g : Label) (d : Depth) (q : each-node d ≡ reach r) (p : Place) (b : Bool) (t : Text) (xs : List Leaf) (e : covers r g p ≡ true) where
   -- of a node's leaves the others vanish
   inner-leaf : starts d p ≡ false → ruleLeaf key s r g (leaf p b (some t)) xs ≡ leaf p b none
-  unfolding ruleLeaf fate fateIn isNode collapse after
+  unfolding ruleLeaf effect effectIn isNode collapse after
   inner-leaf h = rw (e, ← q, h, or-id b)
 
   inner-says : starts d p ≡ false → ruleEvents key s r g (leaf p b (some t)) xs ≡ []
-  unfolding ruleEvents fate fateIn took collapse changing learning
+  unfolding ruleEvents effect effectIn textsAt collapse changing learning
   inner-says h = rw (e, ← q, h)
 
   -- and the first one collapses
   first-leaf : starts d p ≡ true → ruleLeaf key s r g (leaf p b (some t)) xs ≡ leaf p b (after (collapse true (isNull t && isNil (restOfNode d xs))) t)
-  unfolding ruleLeaf fate fateIn isNode
+  unfolding ruleLeaf effect effectIn isNode
   first-leaf h = rw (e, ← q, h, or-id b)
 
   first-says : starts d p ≡ true → ruleEvents key s r g (leaf p b (some t)) xs
       ≡ learning s (r .action) (t ∷ restOfNode d xs)
       ++ changing (row g p (r .action)) (size (t ∷ restOfNode d xs) - 1) (collapse true (isNull t && isNil (restOfNode d xs)))
-  unfolding ruleEvents fate fateIn took
+  unfolding ruleEvents effect effectIn textsAt
   first-says h = rw (e, ← q, h)
 
 -- the leaves behind leaf i
@@ -64,7 +65,7 @@ behind named cells store end i = listOf (leafAt (marked named) cells store) (suc
 -- ---- a leaf that vanishes
 
 module _ (on : Setting) (at : Spot) (r : Rule) (text : Text) (named : List Bool) (cells : List ℕ) (store report bytes : Text) (known : List ℕ) (c : Counters)
-    (w : NodeReady cells store (on .leaves) (at .index) (at .end) c) (few : on .leaves ≤ 4096) (k : KnownHeld text bytes known c) (e : covers r (asLabel (at .label)) (placeAt cells (at .index)) ≡ true) where
+    (w : NodeReady cells store (on .leaves) (at .index) (at .end) c) (few : on .leaves ≤ LEAVES_MAX) (k : KnownHeld text bytes known c) (e : covers r (asLabel (at .label)) (placeAt cells (at .index)) ≡ true) where
   pub visit-inner : (R : Reach) → R ≡ reach r → isNode R ≡ true → startsAt R (placeAt cells (at .index)) ≡ false → {cells′ : List ℕ} → Vanished cells (at .index) cells′
       → Visit (λ ks. rulePass (on .key) (on .separators) r) true on at text (buffers named cells store report bytes known) c (buffers named cells′ store report bytes known) (Going c)
   unfolding isNode startsAt
@@ -83,16 +84,16 @@ module _ (on : Setting) (at : Spot) (r : Rule) (text : Text) (named : List Bool)
       report-most = omega arith;
       size-most = w .most;
       pass = refl;
-      book = λ b z. rw says (unfold bookAll in z);
+      progress = λ b z. rw says (unfold afterEvents in z);
     };
   }
     where
       here : leafAt (marked named) cells′ store (at .index)
           ≡ rulePass (on .key) (on .separators) r .leaf (asLabel (at .label)) (leafAt (marked named) cells store (at .index)) (behind named cells store (at .end) (at .index))
-      here = unfold rulePass leafAt in rw (v .place (at .index), v .here store, live-text cells store (at .index) (w .live)) (sym (inner-leaf (on .key) (on .separators) r (asLabel (at .label)) t q (placeAt cells (at .index)) (marked named (at .index)) (textOf cells store (at .index)) (behind named cells store (at .end) (at .index)) e h))
+      here = unfold rulePass leafAt in rw (v .place (at .index), v .here store, live-text cells store (at .index) (w .live)) (sym (inner-leaf (on .key) (on .separators) r (asLabel (at .label)) t q (placeAt cells (at .index)) (marked named (at .index)) (textIn cells store (at .index)) (behind named cells store (at .end) (at .index)) e h))
 
       says : saidOf (rulePass (on .key) (on .separators) r) (asLabel (at .label)) (at .end) (leafAt (marked named) cells store) (at .index) ≡ []
-      says = unfold rulePass saidOf leafAt in rw (live-text cells store (at .index) (w .live)) (inner-says (on .key) (on .separators) r (asLabel (at .label)) t q (placeAt cells (at .index)) (marked named (at .index)) (textOf cells store (at .index)) (behind named cells store (at .end) (at .index)) e h)
+      says = unfold rulePass saidOf leafAt in rw (live-text cells store (at .index) (w .live)) (inner-says (on .key) (on .separators) r (asLabel (at .label)) t q (placeAt cells (at .index)) (marked named (at .index)) (textIn cells store (at .index)) (behind named cells store (at .end) (at .index)) e h)
 
 -- ---- a node's first leaf
 
@@ -101,7 +102,7 @@ node-texts : (t : Depth) (named : List Bool) (cells : List ℕ) (store : Text) (
     → restOfNode t (behind named cells store end i) ≡ liveTexts cells store (suc i) (e - suc i)
 node-texts t named cells store end i h = rw h (rest-live t (marked named) cells store (suc i) (end - suc i))
 
-all-texts : (cells : List ℕ) (store : Text) (i e : ℕ) → i < e → cell cells i 3 ≡ 0 → textOf cells store i ∷ liveTexts cells store (suc i) (e - suc i) ≡ liveTexts cells store i (e - i)
+all-texts : (cells : List ℕ) (store : Text) (i e : ℕ) → i < e → cell cells i 3 ≡ 0 → textIn cells store i ∷ liveTexts cells store (suc i) (e - suc i) ≡ liveTexts cells store i (e - i)
 all-texts cells store i e h live = let n : e - i ≡ suc (e - suc i) = omega arith in rw n (sym (live-here cells store i (e - suc i) (eq-eqb (cell cells i 3) 0 live)))
 
 module _ (key : ℕ) (s : Separators) (r : Rule) (g : Label) (end i : ℕ) (named : List Bool) (cells : List ℕ) (store : Text)
@@ -111,11 +112,11 @@ module _ (key : ℕ) (s : Separators) (r : Rule) (g : Label) (end i : ℕ) (name
   later = omega (arith, l, end-low (each-node t) cells (suc i) (end - suc i))
 
   first-is : rulePass key s r .leaf g (leafAt (marked named) cells store i) (behind named cells store end i)
-      ≡ leaf (placeAt cells i) (marked named i) (after (collapse true (already cells store i e)) (textOf cells store i))
+      ≡ leaf (placeAt cells i) (marked named i) (after (collapse true (already cells store i e)) (textIn cells store i))
   unfolding rulePass leafAt already
   first-is =
       rw (live-text cells store i live, ← node-texts t named cells store end i l)
-      (first-leaf key s r g t q (placeAt cells i) (marked named i) (textOf cells store i) (behind named cells store end i) o h)
+      (first-leaf key s r g t q (placeAt cells i) (marked named i) (textIn cells store i) (behind named cells store end i) o h)
 
   first-said : saidOf (rulePass key s r) g end (leafAt (marked named) cells store) i
       ≡ learning s (r .action) (liveTexts cells store i (e - i))
@@ -123,10 +124,10 @@ module _ (key : ℕ) (s : Separators) (r : Rule) (g : Label) (end i : ℕ) (name
   unfolding rulePass saidOf leafAt already
   first-said =
       rw (live-text cells store i live, ← all-texts cells store i e later live, ← node-texts t named cells store end i l)
-      (first-says key s r g t q (placeAt cells i) (marked named i) (textOf cells store i) (behind named cells store end i) o h)
+      (first-says key s r g t q (placeAt cells i) (marked named i) (textIn cells store i) (behind named cells store end i) o h)
 
 module _ (on : Setting) (at : Spot) (r : Rule) (text : Text) (named : List Bool) (cells : List ℕ) (store report bytes : Text) (known : List ℕ) (c : Counters)
-    (w : NodeReady cells store (on .leaves) (at .index) (at .end) c) (few : on .leaves ≤ 4096) (o : covers r (asLabel (at .label)) (placeAt cells (at .index)) ≡ true) {e : ℕ} where
+    (w : NodeReady cells store (on .leaves) (at .index) (at .end) c) (few : on .leaves ≤ LEAVES_MAX) (o : covers r (asLabel (at .label)) (placeAt cells (at .index)) ≡ true) {e : ℕ} where
   -- by what learning answered
   pub node-full : (R : Reach) → R ≡ reach r → isNode R ≡ true → startsAt R (placeAt cells (at .index)) ≡ true → e ≡ nodeEnd R cells (suc (at .index)) (at .end - suc (at .index))
       → {bytes′ : Text} {known′ : List ℕ} {x : Done} {f : Refusal} → Learning (learning (on .separators) (r .action) (liveTexts cells store (at .index) (e - at .index))) (on .sweep) text bytes known c bytes′ known′ x → x ≡ Stopped f

@@ -14,12 +14,13 @@ use Rattle.text.proofs.Laws.{by-cond}
 use Rattle.er7.specs.declared.message.Place.{Place}
 use Rattle.message_model.specs.Message.{leaf}
 use Rattle.run_model.specs.Redact.{Reach, Depth, each-node, starts, restOfNode, size, isNil}
-use Rattle.er7_table.specs.Table.{cell, listOf, placeAt, textAt, leafAt, Good}
+use Rattle.er7_table.specs.Table.{cell, listOf, placeAt, storedText, leafAt, Good}
 use Rattle.er7_render.specs.Stored.{liveLen, liveSum}
 use Rattle.redact_6_row.specs.Reach.{startsAt}
-use Rattle.redact_4_leaf.specs.State.{textOf}
+use Rattle.redact_4_leaf.specs.State.{textIn}
 use Rattle.redact_4_leaf.proofs.Acting.{text-length}
 use Rattle.redact_3_node.specs.Node.{opens, nodeEnd, liveTexts, leafSize, leavesSize}
+use Rattle.refusal.specs.Limits.{TEXT_MAX}
 
 -- by the two values of a test
 pub by-bool : {X : Type 0} (b : Bool) → (b ≡ true → X) → (b ≡ false → X) → X
@@ -68,7 +69,7 @@ module _ {r : Reach} {cells : List ℕ} {i end j : ℕ} (w : Seeking r cells i e
 -- ---- the texts of a node's leaves
 
 module _ (cells : List ℕ) (store : Text) (i : ℕ) where
-  pub live-here : (k : ℕ) → eqb (cell cells i 3) 0 ≡ true → liveTexts cells store i (suc k) ≡ textOf cells store i ∷ liveTexts cells store (suc i) k
+  pub live-here : (k : ℕ) → eqb (cell cells i 3) 0 ≡ true → liveTexts cells store i (suc k) ≡ textIn cells store i ∷ liveTexts cells store (suc i) k
   unfolding liveTexts
   live-here k e = rw e
 
@@ -79,11 +80,11 @@ module _ (cells : List ℕ) (store : Text) (i : ℕ) where
 -- what a leaf stands for, by its two tests
 module _ (d : Depth) (m : ℕ → Bool) (cells : List ℕ) (store : Text) (i : ℕ) where
   leaf-gone : eqb (cell cells i 3) 0 ≡ false → leafAt m cells store i ≡ leaf (placeAt cells i) (m i) none
-  unfolding leafAt textAt
+  unfolding leafAt storedText
   leaf-gone e = rw e
 
-  leaf-live : eqb (cell cells i 3) 0 ≡ true → leafAt m cells store i ≡ leaf (placeAt cells i) (m i) (some (textOf cells store i))
-  unfolding leafAt textAt textOf
+  leaf-live : eqb (cell cells i 3) 0 ≡ true → leafAt m cells store i ≡ leaf (placeAt cells i) (m i) (some (textIn cells store i))
+  unfolding leafAt storedText textIn
   leaf-live e = rw e
 
   opens-gone : eqb (cell cells i 3) 0 ≡ false → opens (each-node d) cells i ≡ false
@@ -160,7 +161,7 @@ module _ {cells : List ℕ} {first end i sum : ℕ} (w : Adding cells first end 
   step : i < end → leavesSize cells i (end - i) ≡ leafSize cells i + leavesSize cells (suc i) (end - suc i)
   step h = let n : end - i ≡ suc (end - suc i) = omega arith in rw n (unfold leavesSize in refl)
 
-  pub adding-fits : i < end → liveSum cells first (end - first) ≤ 49152 → sum + leafSize cells i ≤ 49152 + end
+  pub adding-fits : i < end → liveSum cells first (end - first) ≤ TEXT_MAX → sum + leafSize cells i ≤ TEXT_MAX + end
   adding-fits h l = omega (arith, w .left, step h, leaves-most cells first (end - first))
 
   pub adding-more : i < end → Adding cells first end (i + 1) (sum + leafSize cells i)

@@ -5,10 +5,11 @@ use er7_render::store::set_gone;
 use er7_table::table::place_at;
 use er7_value::escape::is_null;
 use redact_4_leaf::leaf::Spot;
-use redact_4_leaf::leaf::enter;
+use redact_4_leaf::leaf::put_change;
 use redact_4_leaf::learn::learn_at;
-use redact_5_act::act::Fate;
+use redact_5_act::act::Effect;
 use redact_5_act::act::put_null;
+use redact_5_act::known::KNOWN_CELLS;
 use redact_5_act::state::Setting;
 use redact_5_act::state::Step;
 use redact_5_act::state::read_tally;
@@ -33,8 +34,9 @@ ghost use Rattle.redact_5_act.specs.Known.{GoodKnown};
 ghost use Rattle.redact_5_act.specs.State.{counted, afterStep};
 ghost use Rattle.redact_4_leaf.specs.State.{buffers, KnownHeld, Learning, NodeReady, Change};
 ghost use Rattle.redact_4_leaf.specs.Visit.{rulePass, Visit};
-ghost use Rattle.redact_3_node.specs.Node.{nodeEnd, liveTexts, leafSize, leavesSize, Legible, AllLegible, already};
+ghost use Rattle.redact_3_node.specs.Node.{nodeEnd, liveTexts, leafSize, leavesSize, Learnable, AllLearnable, already};
 ghost use Rattle.redact_3_node.specs.Node as Node;
+ghost use Rattle.refusal.specs.Limits.{INPUT_MAX, LEAVES_MAX, TEXT_MAX};
 
 // Whether leaf i has not vanished and begins a node.
 fn opens(reach: Reach, i: usize, cells: &[usize]) -> bool
@@ -64,7 +66,7 @@ fn node_end(reach: Reach, i: usize, end: usize, cells: &[usize]) -> usize
 
 // The bytes of leaf i with its delimiter, 0 if it has vanished.
 fn leaf_size(i: usize, cells: &[usize]) -> usize
-    requires { ⌜ (i * 8 + 8 ≤ length (now cells)) × (liveLen (now cells) i ≤ 49152) ⌝ }
+    requires { ⌜ (i * 8 + 8 ≤ length (now cells)) × (liveLen (now cells) i ≤ TEXT_MAX) ⌝ }
     ensures { λ r. ⌜ r ≡ leafSize (now (cells .entry)) i ⌝ }
 {
     let at = i * 8;
@@ -76,7 +78,7 @@ fn leaf_size(i: usize, cells: &[usize]) -> usize
 
 // The bytes of the leaves from leaf first to before leaf end that have not vanished, each with its delimiter.
 fn leaves_size(first: usize, end: usize, cells: &[usize]) -> usize
-    requires { ⌜ (first ≤ end) × (end * 8 ≤ length (now cells)) × (liveSum (now cells) first (end - first) ≤ 49152) ⌝ }
+    requires { ⌜ (first ≤ end) × (end * 8 ≤ length (now cells)) × (liveSum (now cells) first (end - first) ≤ TEXT_MAX) ⌝ }
     ensures { λ r. ⌜ r ≡ leavesSize (now (cells .entry)) first (end - first) ⌝ }
 {
     let mut sum = 0;
@@ -96,10 +98,10 @@ fn learn_live(
     cells: &[usize],
     store: &[u8; 98304],
     bytes: &mut [u8; 65536],
-    known: &mut [usize; 4096],
+    known: &mut [usize; KNOWN_CELLS],
     tally: &mut [usize; 6],
 ) -> Step
-    requires { ⌜ Legible (now cells) (now bytes) (now known) i (counted (now tally)) ⌝ }
+    requires { ⌜ Learnable (now cells) (now bytes) (now known) i (counted (now tally)) ⌝ }
     ensures { λ r. ⌜ ((text : Text) → ActionHeld text a → KnownHeld text (now (bytes .entry)) (now (known .entry)) (counted (now (tally .entry))) → Learning (learning (on .separators) (asAction text a) (liveTexts (now (cells .entry)) (now (store .entry)) i 1)) (on .sweep) text (now (bytes .entry)) (now (known .entry)) (counted (now (tally .entry))) (now (bytes .exit)) (now (known .exit)) (afterStep (counted (now (tally .exit))) r)) ⌝ }
 {
     let row = i * 8;
@@ -118,10 +120,10 @@ fn learn_all(
     cells: &[usize],
     store: &[u8; 98304],
     bytes: &mut [u8; 65536],
-    known: &mut [usize; 4096],
+    known: &mut [usize; KNOWN_CELLS],
     tally: &mut [usize; 6],
 ) -> Step
-    requires { ⌜ AllLegible (now cells) first end × GoodKnown (now bytes) (now known) (counted (now tally) .known) (counted (now tally) .«known_used») ⌝ }
+    requires { ⌜ AllLearnable (now cells) first end × GoodKnown (now bytes) (now known) (counted (now tally) .known) (counted (now tally) .«known_used») ⌝ }
     ensures { λ r. ⌜ ((text : Text) → ActionHeld text a → KnownHeld text (now (bytes .entry)) (now (known .entry)) (counted (now (tally .entry))) → Learning (learning (on .separators) (asAction text a) (liveTexts (now (cells .entry)) (now (store .entry)) first (end - first))) (on .sweep) text (now (bytes .entry)) (now (known .entry)) (counted (now (tally .entry))) (now (bytes .exit)) (now (known .exit)) (afterStep (counted (now (tally .exit))) r)) ⌝ }
 {
     let mut i = first;
@@ -138,7 +140,7 @@ fn learn_all(
 }
 
 // Makes the null the text of a leaf, with its row, where went bytes of the message go.
-fn enter_null(
+fn put_null_change(
     at: Spot,
     n: usize,
     a: Action,
@@ -149,16 +151,16 @@ fn enter_null(
     report: &mut [u8],
     tally: &mut [usize; 6],
 ) -> Step
-    requires { ⌜ ActionHeld (now text) a × NodeReady (now cells) (now store) n (at .index) (at .end) (counted (now tally)) × (length (now text) ≤ 32768) ⌝ }
+    requires { ⌜ ActionHeld (now text) a × NodeReady (now cells) (now store) n (at .index) (at .end) (counted (now tally)) × (length (now text) ≤ INPUT_MAX) ⌝ }
     ensures { λ r. ⌜ Change true (becomes NULL) (row (asLabel (at .label)) (placeAt (now (cells .entry)) (at .index)) (asAction (now (text .entry)) a)) went n (at .index) (now (cells .entry)) (now (store .entry)) (now (report .entry)) (counted (now (tally .entry))) (now (cells .exit)) (now (store .exit)) (now (report .exit)) (afterStep (counted (now (tally .exit))) r) ⌝ }
 {
     match put_null(store, went, read_tally(tally)) {
-        Fate::Stays => Step::Made,
-        Fate::Becomes(came) => {
-            enter(at, a, text, went, came, cells, report, tally);
+        Effect::Stays => Step::Made,
+        Effect::Becomes(came) => {
+            put_change(at, a, text, went, came, cells, report, tally);
             Step::Made
         }
-        Fate::TooLong => Step::Refused(Refusal::MessageTooLong),
+        Effect::TooLong => Step::Refused(Refusal::MessageTooLong),
     }
 }
 
@@ -173,7 +175,7 @@ fn null_node(
     report: &mut [u8],
     tally: &mut [usize; 6],
 ) -> Step
-    requires { ⌜ ActionHeld (now text) a × NodeReady (now cells) (now store) n (at .index) (at .end) (counted (now tally)) × (length (now text) ≤ 32768) ⌝ }
+    requires { ⌜ ActionHeld (now text) a × NodeReady (now cells) (now store) n (at .index) (at .end) (counted (now tally)) × (length (now text) ≤ INPUT_MAX) ⌝ }
     ensures { λ r. ⌜ Change true (collapse true (already (now (cells .entry)) (now (store .entry)) (at .index) (at .end))) (row (asLabel (at .label)) (placeAt (now (cells .entry)) (at .index)) (asAction (now (text .entry)) a)) (size (liveTexts (now (cells .entry)) (now (store .entry)) (at .index) (at .end - at .index)) - 1) n (at .index) (now (cells .entry)) (now (store .entry)) (now (report .entry)) (counted (now (tally .entry))) (now (cells .exit)) (now (store .exit)) (now (report .exit)) (afterStep (counted (now (tally .exit))) r) ⌝ }
 {
     let i = at.index;
@@ -186,7 +188,7 @@ fn null_node(
     if is_null(&all[start..stop]) & (rest == 0) {
         return Step::Made;
     }
-    enter_null(at, n, a, text, len + rest, cells, store, report, tally)
+    put_null_change(at, n, a, text, len + rest, cells, store, report, tally)
 }
 
 // The collapse of the node whose first leaf this is, in a segment whose leaves end before index at.end.
@@ -199,10 +201,10 @@ fn collapse_node(
     store: &mut [u8; 98304],
     report: &mut [u8],
     bytes: &mut [u8; 65536],
-    known: &mut [usize; 4096],
+    known: &mut [usize; KNOWN_CELLS],
     tally: &mut [usize; 6],
 ) -> Step
-    requires { ⌜ ActionHeld (now text) (rule .action) × (isNode (reach (asRule (now text) rule)) ≡ true) × (covers (asRule (now text) rule) (asLabel (at .label)) (placeAt (now cells) (at .index)) ≡ true) × (startsAt (reach (asRule (now text) rule)) (placeAt (now cells) (at .index)) ≡ true) × NodeReady (now cells) (now store) (on .leaves) (at .index) (at .end) (counted (now tally)) × KnownHeld (now text) (now bytes) (now known) (counted (now tally)) × (length (now text) ≤ 32768) × (on .leaves ≤ 4096) ⌝ }
+    requires { ⌜ ActionHeld (now text) (rule .action) × (isNode (reach (asRule (now text) rule)) ≡ true) × (covers (asRule (now text) rule) (asLabel (at .label)) (placeAt (now cells) (at .index)) ≡ true) × (startsAt (reach (asRule (now text) rule)) (placeAt (now cells) (at .index)) ≡ true) × NodeReady (now cells) (now store) (on .leaves) (at .index) (at .end) (counted (now tally)) × KnownHeld (now text) (now bytes) (now known) (counted (now tally)) × (length (now text) ≤ INPUT_MAX) × (on .leaves ≤ LEAVES_MAX) ⌝ }
     ensures { λ r. ⌜ ((named : List Bool) → Visit (λ ks. rulePass (on .key) (on .separators) (asRule (now (text .entry)) rule)) true on at (now (text .entry)) (buffers named (now (cells .entry)) (now (store .entry)) (now (report .entry)) (now (bytes .entry)) (now (known .entry))) (counted (now (tally .entry))) (buffers named (now (cells .exit)) (now (store .exit)) (now (report .exit)) (now (bytes .exit)) (now (known .exit))) (afterStep (counted (now (tally .exit))) r)) ⌝ }
 {
     let a = rule.action;
@@ -232,10 +234,10 @@ pub fn collapse_leaf(
     store: &mut [u8; 98304],
     report: &mut [u8],
     bytes: &mut [u8; 65536],
-    known: &mut [usize; 4096],
+    known: &mut [usize; KNOWN_CELLS],
     tally: &mut [usize; 6],
 ) -> Step
-    requires { ⌜ ActionHeld (now text) (rule .action) × (isNode (reach (asRule (now text) rule)) ≡ true) × (covers (asRule (now text) rule) (asLabel (at .label)) (placeAt (now cells) (at .index)) ≡ true) × NodeReady (now cells) (now store) (on .leaves) (at .index) (at .end) (counted (now tally)) × KnownHeld (now text) (now bytes) (now known) (counted (now tally)) × (length (now text) ≤ 32768) × (on .leaves ≤ 4096) ⌝ }
+    requires { ⌜ ActionHeld (now text) (rule .action) × (isNode (reach (asRule (now text) rule)) ≡ true) × (covers (asRule (now text) rule) (asLabel (at .label)) (placeAt (now cells) (at .index)) ≡ true) × NodeReady (now cells) (now store) (on .leaves) (at .index) (at .end) (counted (now tally)) × KnownHeld (now text) (now bytes) (now known) (counted (now tally)) × (length (now text) ≤ INPUT_MAX) × (on .leaves ≤ LEAVES_MAX) ⌝ }
     ensures { λ r. ⌜ ((named : List Bool) → Visit (λ ks. rulePass (on .key) (on .separators) (asRule (now (text .entry)) rule)) true on at (now (text .entry)) (buffers named (now (cells .entry)) (now (store .entry)) (now (report .entry)) (now (bytes .entry)) (now (known .entry))) (counted (now (tally .entry))) (buffers named (now (cells .exit)) (now (store .exit)) (now (report .exit)) (now (bytes .exit)) (now (known .exit))) (afterStep (counted (now (tally .exit))) r)) ⌝ }
 {
     let i = at.index;

@@ -13,7 +13,7 @@ use Rattle.er7.specs.declared.message.Place.{Place}
 use Rattle.er7.specs.declared.separators.Separators.{Separators}
 use Rattle.er7_redact.specs.Action.{Action, keep, asAction, ActionHeld}
 use Rattle.message_model.specs.Message.{Leaf, leaf, Label}
-use Rattle.run_model.specs.Redact.{after, forSweep, act, actOr, row, changing, changingOr, isUnnamed, unnamedLeaf, unnamedEvents, Known, bookAll, stays}
+use Rattle.run_model.specs.Redact.{after, forSweep, act, actOr, row, changing, changingOr, isUnnamed, unnamedLeaf, unnamedEvents, Known, afterEvents, stays}
 use Rattle.er7_table.specs.Table.{cell, listOf, placeAt, leafAt, asLabel}
 use Rattle.redact_5_act.specs.Known.{actionAt, sweptIn, FoundAt, Swept}
 use Rattle.redact_5_act.specs.declared.state.Setting.{Setting}
@@ -21,12 +21,13 @@ use Rattle.redact_5_act.specs.declared.state.Counters.{Counters}
 use Rattle.redact_5_act.specs.declared.state.Done.{Done}
 use Rattle.redact_5_act.specs.declared.state.Done.the-variants.{Going}
 use Rattle.redact_4_leaf.specs.Walk.{Pass}
-use Rattle.redact_4_leaf.specs.State.{buffers, textOf, marked, knownNow, KnownHeld, LearntTo, Ready, Change, ActedOn}
+use Rattle.redact_4_leaf.specs.State.{buffers, textIn, marked, knownNow, KnownHeld, LearntTo, Ready, Change, ActedOn}
 use Rattle.redact_4_leaf.specs.Visit.{unnamedPass, saidOf, Visit}
 use Rattle.redact_4_leaf.specs.declared.leaf.Spot.{Spot}
 use Rattle.redact_4_leaf.proofs.Learnt.{learnt-none}
 use Rattle.redact_4_leaf.proofs.Acting.{Live, ready-live, live-text, text-length, stayed}
 use Rattle.redact_4_leaf.proofs.Visits.{known-same, Seen, seen-visit}
+use Rattle.refusal.specs.Limits.{LEAVES_MAX}
 
 module _ (key : ℕ) (s : Separators) (pick : Text → Option Action) (g : Label) (p : Place) (b : Bool) (t : Text) (xs : List Leaf) where
   -- a text for which there is no action stays
@@ -49,18 +50,18 @@ module _ (key : ℕ) (s : Separators) (pick : Text → Option Action) (g : Label
     act-says = rw (u, q)
 
 module _ (on : Setting) (at : Spot) (text : Text) (named : List Bool) (cells : List ℕ) (store report bytes : Text) (known : List ℕ) (c : Counters)
-    (pick : List Known → Text → Option Action) (w : Ready cells store (on .leaves) (at .index) c) (few : on .leaves ≤ 4096) (h : KnownHeld text bytes known c) where
+    (pick : List Known → Text → Option Action) (w : Ready cells store (on .leaves) (at .index) c) (few : on .leaves ≤ LEAVES_MAX) (h : KnownHeld text bytes known c) where
   abbrev P : List Known → Pass
   P ks = unnamedPass (on .key) (on .separators) (pick ks)
 
   abbrev here : Text
-  here = textOf cells store (at .index)
+  here = textIn cells store (at .index)
 
   abbrev behind : List Leaf
   behind = listOf (leafAt (marked named) cells store) (suc (at .index)) (at .end - suc (at .index))
 
   nothing-learnt : LearntTo [] (on .sweep) text bytes known c bytes known c
-  nothing-learnt = learnt-none [] (on .sweep) (λ b. unfold bookAll in refl) h
+  nothing-learnt = learnt-none [] (on .sweep) (λ b. unfold afterEvents in refl) h
 
   -- there is an action for it
   module _ (a : Action) (u : isUnnamed (asLabel (at .label)) (placeAt cells (at .index)) (marked named (at .index)) ≡ true) (q : pick (knownNow text bytes known c) here ≡ some a) where

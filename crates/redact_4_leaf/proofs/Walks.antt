@@ -7,18 +7,18 @@ use native.Mathlib.Nat.{sub-self, zero-add}
 use native.Mathlib.Omega.{arith}
 use Rattle.refusal.specs.declared.Refusal.{Refusal}
 use Rattle.message_model.specs.Message.{Leaf, Label, segment}
-use Rattle.run_model.specs.Redact.{Event, Book, stopped, booked, bookAll, overLeaves, overSegments, leavesEvents, segmentsEvents}
+use Rattle.run_model.specs.Redact.{Event, Progress, stopped, afterEvent, afterEvents, overLeaves, overSegments, leavesEvents, segmentsEvents}
 use Rattle.er7_table.specs.Table.{listOf}
 use Rattle.er7_table.proofs.Laws.{list-snoc, list-ext}
 use Rattle.redact_4_leaf.specs.Walk.{Pass, LeavesTo, LeafDone, SegmentDone, segmentOf, SegmentsTo, AllDone}
 
-pub book-append : (sweep : Bool) (es fs : List Event) (b : Book) → bookAll sweep (es ++ fs) b ≡ bookAll sweep fs (bookAll sweep es b)
-unfolding bookAll
-book-append sweep [] fs b = refl
-book-append sweep (e ∷ es) fs b = book-append sweep es fs _
+pub progress-append : (sweep : Bool) (es fs : List Event) (b : Progress) → afterEvents sweep (es ++ fs) b ≡ afterEvents sweep fs (afterEvents sweep es b)
+unfolding afterEvents
+progress-append sweep [] fs b = refl
+progress-append sweep (e ∷ es) fs b = progress-append sweep es fs _
 
-pub stopped-stays : (sweep : Bool) (es : List Event) (e : Refusal) → bookAll sweep es (stopped e) ≡ stopped e
-unfolding bookAll booked
+pub stopped-stays : (sweep : Bool) (es : List Event) (e : Refusal) → afterEvents sweep es (stopped e) ≡ stopped e
+unfolding afterEvents afterEvent
 stopped-stays sweep [] e = refl
 stopped-stays sweep (x ∷ es) e = stopped-stays sweep es e
 
@@ -33,17 +33,17 @@ list-last f a i h =
     rw n (list-snoc f a (i - a) ∙ ap (λ k. listOf f a (i - a) ++ (f k ∷ [])) m)
 
 module _ (P : Pass) (sweep : Bool) (g : Label) (n first end : ℕ) where
-  pub leaves-start : (f : ℕ → Leaf) (b : Book) → first ≤ end → LeavesTo P sweep g n first end first f f b b
+  pub leaves-start : (f : ℕ → Leaf) (b : Progress) → first ≤ end → LeavesTo P sweep g n first end first f f b b
   leaves-start f b h = record {
     low = omega arith;
     high = h;
     ahead = λ j l k. refl;
     before = λ j l. refl;
     done = rw (sub-self first) (unfold listOf in refl);
-    book = refl;
+    progress = refl;
   }
 
-  module _ (l : end ≤ n) {i : ℕ} {f₀ f f′ : ℕ → Leaf} {b₀ b b′ : Book} (w : LeavesTo P sweep g n first end i f₀ f b₀ b) (h : i < end)
+  module _ (l : end ≤ n) {i : ℕ} {f₀ f f′ : ℕ → Leaf} {b₀ b b′ : Progress} (w : LeavesTo P sweep g n first end i f₀ f b₀ b) (h : i < end)
       (d : LeafDone P sweep g n end i f f′ b b′) where
     rest-same : listOf f (suc i) (end - suc i) ≡ listOf f₀ (suc i) (end - suc i)
     rest-same = list-ext f f₀ (suc i) (end - suc i) (λ k a c. w .ahead k (omega arith) (omega arith))
@@ -63,27 +63,27 @@ module _ (P : Pass) (sweep : Bool) (g : Label) (n first end : ℕ) where
       done =
           rw (list-last f′ first i (w .low), front-same, d .here, rest-same, here-same, append-assoc)
           (sym (ap (λ xs. listOf f first (i - first) ++ overLeaves (P .leaf) g xs) (list-step f₀ i end h)) ∙ w .done);
-      book =
-          sym (ap (bookAll sweep (leavesEvents (P .says) g (listOf f₀ (suc i) (end - suc i)))) (d .book))
+      progress =
+          sym (ap (afterEvents sweep (leavesEvents (P .says) g (listOf f₀ (suc i) (end - suc i)))) (d .progress))
           ∙ rw (rest-same, here-same)
-          (sym (book-append sweep (P .says g (f₀ i) (listOf f₀ (suc i) (end - suc i))) (leavesEvents (P .says) g (listOf f₀ (suc i) (end - suc i))) b)
-          ∙ sym (ap (λ xs. bookAll sweep (leavesEvents (P .says) g xs) b) (list-step f₀ i end h)) ∙ w .book);
+          (sym (progress-append sweep (P .says g (f₀ i) (listOf f₀ (suc i) (end - suc i))) (leavesEvents (P .says) g (listOf f₀ (suc i) (end - suc i))) b)
+          ∙ sym (ap (λ xs. afterEvents sweep (leavesEvents (P .says) g xs) b) (list-step f₀ i end h)) ∙ w .progress);
     }
 
   -- a leaf at which the run is refused
-  pub leaves-stop : end ≤ n → {i : ℕ} {f₀ f : ℕ → Leaf} {b₀ b : Book} → LeavesTo P sweep g n first end i f₀ f b₀ b → i < end → (e : Refusal)
-      → bookAll sweep (P .says g (f i) (listOf f (suc i) (end - suc i))) b ≡ stopped e
-      → bookAll sweep (leavesEvents (P .says) g (listOf f₀ first (end - first))) b₀ ≡ stopped e
+  pub leaves-stop : end ≤ n → {i : ℕ} {f₀ f : ℕ → Leaf} {b₀ b : Progress} → LeavesTo P sweep g n first end i f₀ f b₀ b → i < end → (e : Refusal)
+      → afterEvents sweep (P .says g (f i) (listOf f (suc i) (end - suc i))) b ≡ stopped e
+      → afterEvents sweep (leavesEvents (P .says) g (listOf f₀ first (end - first))) b₀ ≡ stopped e
   leaves-stop l {i} {f₀} {f} {b₀} {b} w h e q =
       let rest = list-ext f f₀ (suc i) (end - suc i) (λ k a c. w .ahead k (omega arith) (omega arith)) in
       let here = w .ahead i (omega arith) (omega arith) in
-      sym (w .book)
-      ∙ ap (λ xs. bookAll sweep (leavesEvents (P .says) g xs) b) (list-step f₀ i end h)
-      ∙ book-append sweep (P .says g (f₀ i) (listOf f₀ (suc i) (end - suc i))) (leavesEvents (P .says) g (listOf f₀ (suc i) (end - suc i))) b
-      ∙ ap (bookAll sweep (leavesEvents (P .says) g (listOf f₀ (suc i) (end - suc i)))) (sym (rw (rest, here)) ∙ q)
+      sym (w .progress)
+      ∙ ap (λ xs. afterEvents sweep (leavesEvents (P .says) g xs) b) (list-step f₀ i end h)
+      ∙ progress-append sweep (P .says g (f₀ i) (listOf f₀ (suc i) (end - suc i))) (leavesEvents (P .says) g (listOf f₀ (suc i) (end - suc i))) b
+      ∙ ap (afterEvents sweep (leavesEvents (P .says) g (listOf f₀ (suc i) (end - suc i)))) (sym (rw (rest, here)) ∙ q)
       ∙ stopped-stays sweep (leavesEvents (P .says) g (listOf f₀ (suc i) (end - suc i))) e
 
-  pub leaves-end : {i : ℕ} {f₀ f : ℕ → Leaf} {b₀ b : Book} → LeavesTo P sweep g n first end i f₀ f b₀ b → end ≤ i → SegmentDone P sweep g n first end f₀ f b₀ b
+  pub leaves-end : {i : ℕ} {f₀ f : ℕ → Leaf} {b₀ b : Progress} → LeavesTo P sweep g n first end i f₀ f b₀ b → end ≤ i → SegmentDone P sweep g n first end f₀ f b₀ b
   leaves-end {i} {f₀} {f} {b₀} {b} w h =
       let e : i ≡ end = omega (arith, w .high) in
       let z : end - end ≡ 0 = omega arith in
@@ -92,7 +92,7 @@ module _ (P : Pass) (sweep : Bool) (g : Label) (n first end : ℕ) where
         here = sym (append-nil (listOf f first (end - first))) ∙ ended e none;
         before = w .before;
         behind = λ j a c. w .ahead j (omega arith) c;
-        book = sym (w .book) ∙ rw none (unfold bookAll in refl);
+        progress = sym (w .progress) ∙ rw none (unfold afterEvents in refl);
       }
     where
       ended : i ≡ end → listOf f₀ i (end - i) ≡ [] → listOf f first (end - first) ++ [] ≡ overLeaves (P .leaf) g (listOf f₀ first (end - first))
@@ -101,15 +101,15 @@ module _ (P : Pass) (sweep : Bool) (g : Label) (n first end : ℕ) where
 -- ---- segments
 
 module _ (P : Pass) (sweep : Bool) (labels : ℕ → Label) (firsts : ℕ → ℕ) (n m : ℕ) where
-  pub segments-start : (f : ℕ → Leaf) (b : Book) → SegmentsTo P sweep labels firsts n m 0 f f b b
+  pub segments-start : (f : ℕ → Leaf) (b : Progress) → SegmentsTo P sweep labels firsts n m 0 f f b b
   segments-start f b = let z : m - 0 ≡ m = omega arith in record {
     high = omega arith;
     ahead = λ j l k. refl;
     done = rw z (unfold listOf in refl);
-    book = rw z;
+    progress = rw z;
   }
 
-  module _ (up : (i j : ℕ) → i ≤ j → j ≤ m → firsts i ≤ firsts j) (all : firsts m ≡ n) {k : ℕ} {f₀ f f′ : ℕ → Leaf} {b₀ b b′ : Book}
+  module _ (up : (i j : ℕ) → i ≤ j → j ≤ m → firsts i ≤ firsts j) (all : firsts m ≡ n) {k : ℕ} {f₀ f f′ : ℕ → Leaf} {b₀ b b′ : Progress}
       (w : SegmentsTo P sweep labels firsts n m k f₀ f b₀ b) (h : k < m)
       (d : SegmentDone P sweep (labels k) n (firsts k) (firsts (suc k)) f f′ b b′) where
     own-same : listOf f (firsts k) (firsts (suc k) - firsts k) ≡ listOf f₀ (firsts k) (firsts (suc k) - firsts k)
@@ -133,21 +133,21 @@ module _ (P : Pass) (sweep : Bool) (labels : ℕ → Label) (firsts : ℕ → �
           rw (list-snoc (segmentOf labels firsts f′) 0 k, front-segments, zero-add k, this-segment, append-assoc)
           (sym (ap (λ xs. listOf (segmentOf labels firsts f) 0 k ++ overSegments (P .leaf) xs) (list-step (segmentOf labels firsts f₀) k m h))
           ∙ w .done);
-      book =
-          sym (ap (bookAll sweep (segmentsEvents (P .says) (listOf (segmentOf labels firsts f₀) (suc k) (m - suc k)))) (d .book))
+      progress =
+          sym (ap (afterEvents sweep (segmentsEvents (P .says) (listOf (segmentOf labels firsts f₀) (suc k) (m - suc k)))) (d .progress))
           ∙ rw own-same
-          (sym (book-append sweep (leavesEvents (P .says) (labels k) (listOf f₀ (firsts k) (firsts (suc k) - firsts k))) (segmentsEvents (P .says) (listOf (segmentOf labels firsts f₀) (suc k) (m - suc k))) b)
-          ∙ sym (ap (λ xs. bookAll sweep (segmentsEvents (P .says) xs) b) (list-step (segmentOf labels firsts f₀) k m h)) ∙ w .book);
+          (sym (progress-append sweep (leavesEvents (P .says) (labels k) (listOf f₀ (firsts k) (firsts (suc k) - firsts k))) (segmentsEvents (P .says) (listOf (segmentOf labels firsts f₀) (suc k) (m - suc k))) b)
+          ∙ sym (ap (λ xs. afterEvents sweep (segmentsEvents (P .says) xs) b) (list-step (segmentOf labels firsts f₀) k m h)) ∙ w .progress);
     }
 
-  pub segments-end : {k : ℕ} {f₀ f : ℕ → Leaf} {b₀ b : Book} → SegmentsTo P sweep labels firsts n m k f₀ f b₀ b → m ≤ k → AllDone P sweep labels firsts m f₀ f b₀ b
+  pub segments-end : {k : ℕ} {f₀ f : ℕ → Leaf} {b₀ b : Progress} → SegmentsTo P sweep labels firsts n m k f₀ f b₀ b → m ≤ k → AllDone P sweep labels firsts m f₀ f b₀ b
   segments-end {k} {f₀} {f} {b₀} {b} w h =
       let e : k ≡ m = omega (arith, w .high) in
       let z : m - m ≡ 0 = omega arith in
       let none : listOf (segmentOf labels firsts f₀) k (m - k) ≡ [] = rw (e, z) (unfold listOf in refl) in
       record {
         here = sym (append-nil (listOf (segmentOf labels firsts f) 0 m)) ∙ ended e none;
-        book = sym (w .book) ∙ rw none (unfold bookAll in refl);
+        progress = sym (w .progress) ∙ rw none (unfold afterEvents in refl);
       }
     where
       ended : k ≡ m → listOf (segmentOf labels firsts f₀) k (m - k) ≡ [] → listOf (segmentOf labels firsts f) 0 m ++ [] ≡ overSegments (P .leaf) (listOf (segmentOf labels firsts f₀) 0 m)

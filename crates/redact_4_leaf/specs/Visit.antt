@@ -1,4 +1,4 @@
--- A leaf that a pass has visited: what became of it, and the book. Assumes nothing: these are definitions.
+-- A leaf that a pass has visited: what became of it, and the progress. Assumes nothing: these are definitions.
 use mathlib.Core.Path.{_≡_}
 use mathlib.Core.Bool.{Bool, true, false}
 use mathlib.Core.List.{List}
@@ -9,7 +9,7 @@ use Rattle.er7.specs.declared.separators.Separators.{Separators}
 use Rattle.er7_redact.specs.Action.{Action}
 use Rattle.er7_redact.specs.Policy.{Rule}
 use Rattle.message_model.specs.Message.{Leaf, Label}
-use Rattle.run_model.specs.Redact.{Event, Known, Book, stopped, bookAll, ruleLeaf, ruleEvents, unnamedLeaf, unnamedEvents}
+use Rattle.run_model.specs.Redact.{Event, Known, Progress, stopped, afterEvents, ruleLeaf, ruleEvents, unnamedLeaf, unnamedEvents}
 use Rattle.er7_table.specs.Table.{listOf}
 use Rattle.er7_render.specs.Stored.{liveLen}
 use Rattle.er7_table.specs.Table.{asLabel}
@@ -18,8 +18,9 @@ use Rattle.redact_5_act.specs.declared.state.Counters.{Counters}
 use Rattle.redact_5_act.specs.declared.state.Done.{Done}
 use Rattle.redact_5_act.specs.declared.state.Done.the-variants.{Going, Stopped}
 use Rattle.redact_4_leaf.specs.Walk.{Pass}
-use Rattle.redact_4_leaf.specs.State.{Buffers, leaves, knowing, Books, Held, Kept}
+use Rattle.redact_4_leaf.specs.State.{Buffers, leaves, knowing, RecordedIn, Held, Kept}
 use Rattle.redact_4_leaf.specs.declared.leaf.Spot.{Spot}
+use Rattle.refusal.specs.Limits.{TEXT_MAX}
 
 -- the pass of a rule, and that over unnamed leaves, with an action for each text or none
 unfoldable pub rulePass : ℕ → Separators → Rule → Pass
@@ -44,15 +45,15 @@ pub record Visited (P : List Known → Pass) (node : Bool) (on : Setting) (at : 
   pub grows : c .used ≤ c′ .used
   pub rows : c′ .rows ≤ c .rows + 1
   pub report-most : c′ .«report_len» ≤ c .«report_len» + 65536
-  pub size-most : c′ .size ≤ 49152
+  pub size-most : c′ .size ≤ TEXT_MAX
   pub pass : P (knowing text β′ c′) ≡ P (knowing text β c)
-  pub book : (b : Book) → Books text β c b → Books text β′ c′ (bookAll (on .sweep) (saidOf (P (knowing text β c)) (asLabel (at .label)) (at .end) (leaves β) (at .index)) b)
+  pub progress : (b : Progress) → RecordedIn text β c b → RecordedIn text β′ c′ (afterEvents (on .sweep) (saidOf (P (knowing text β c)) (asLabel (at .label)) (at .end) (leaves β) (at .index)) b)
 
 -- .. or the run was refused there
 abbrev pub VisitedOr : (List Known → Pass) → Bool → Setting → Spot → Text → Buffers → Counters → Buffers → Done → Type 0
 VisitedOr P node on at text β c β′ (Going c′) = Visited P node on at text β c β′ c′
 VisitedOr P node on at text β c β′ (Stopped e) =
-    (b : Book) → Books text β c b → bookAll (on .sweep) (saidOf (P (knowing text β c)) (asLabel (at .label)) (at .end) (leaves β) (at .index)) b ≡ stopped e
+    (b : Progress) → RecordedIn text β c b → afterEvents (on .sweep) (saidOf (P (knowing text β c)) (asLabel (at .label)) (at .end) (leaves β) (at .index)) b ≡ stopped e
 
 pub record Visit (P : List Known → Pass) (node : Bool) (on : Setting) (at : Spot) (text : Text) (β : Buffers) (c : Counters) (β′ : Buffers) (r : Done) : Type 0 where
   pub out : VisitedOr P node on at text β c β′ r

@@ -20,12 +20,13 @@ use Rattle.er7_redact.specs.Action.{Action, asAction, ActionHeld, isKeep}
 use Rattle.message_model.specs.Value.{isEmptyOrNull, value}
 use Rattle.er7_value.proofs.Decoding.{long-full, value-length}
 use Rattle.er7_value.proofs.Hits.{word-short}
-use Rattle.run_model.specs.Redact.{Known, knows, knownBytes, Event, learning, booked, bookAll, firstFound, forSweep}
+use Rattle.run_model.specs.Redact.{Known, knows, knownBytes, Event, learning, afterEvent, afterEvents, firstFound, forSweep}
 use Rattle.redact_5_act.specs.declared.known.Learnt.{Learnt}
 use Rattle.redact_5_act.specs.declared.known.Learnt.the-variants.{Kept, Full}
-use Rattle.redact_5_act.specs.Known.{valueAt, hashOf, actionAt, knownAt, knownFrom, GoodKnown, ActionsHeld, bookOf, learnValue, learnLeaf, Learns, foundIn, sweptIn, FoundAt, Swept}
+use Rattle.redact_5_act.specs.Known.{valueAt, hashOf, actionAt, knownAt, knownFrom, GoodKnown, ActionsHeld, progressOf, learnValue, learnLeaf, Learns, foundIn, sweptIn, FoundAt, Swept}
 use Rattle.redact_5_act.specs.Inner.{RowPut}
 use Rattle.redact_5_act.proofs.Knowing.{apart, known-length}
+use Rattle.refusal.specs.Limits.{LEARNT_BYTES_MAX, LEARNT_MAX}
 
 -- ---- tests
 
@@ -38,11 +39,11 @@ or-right false y e = e
 or-right true false e = refl
 or-right true true e = e
 
-pub not-many : (n m : ℕ) → (leb 512 n || ltb 16384 m) ≡ false → n < 512
-not-many n m e = leb-false 512 n (or-left (leb 512 n) (ltb 16384 m) e)
+pub not-many : (n m : ℕ) → (leb LEARNT_MAX n || ltb LEARNT_BYTES_MAX m) ≡ false → n < LEARNT_MAX
+not-many n m e = leb-false LEARNT_MAX n (or-left (leb LEARNT_MAX n) (ltb LEARNT_BYTES_MAX m) e)
 
-pub not-much : (n m : ℕ) → (leb 512 n || ltb 16384 m) ≡ false → m ≤ 16384
-not-much n m e = ltb-false 16384 m (or-right (leb 512 n) (ltb 16384 m) e)
+pub not-much : (n m : ℕ) → (leb LEARNT_MAX n || ltb LEARNT_BYTES_MAX m) ≡ false → m ≤ LEARNT_BYTES_MAX
+not-much n m e = ltb-false LEARNT_BYTES_MAX m (or-right (leb LEARNT_MAX n) (ltb LEARNT_BYTES_MAX m) e)
 
 -- ---- lists of rows
 
@@ -121,7 +122,7 @@ module _ {b : Text} {k k′ : List ℕ} {n used e v : ℕ} {a : HeldAction} (g :
       let z : n + 1 ≡ suc n = omega arith in
       rw z (known-snoc t b k′ 0 n ∙ ap₂ (λ (ks : List Known) (x : Known). ks ++ (x ∷ [])) (known-ext t b b k′ k 0 n (λ j h. known-kept t j (omega arith))) (known-new t))
 
-  more-good : n < 512 → e ≤ 16384 → GoodKnown b k′ (n + 1) e
+  more-good : n < LEARNT_MAX → e ≤ LEARNT_BYTES_MAX → GoodKnown b k′ (n + 1) e
   more-good m f = record {
     few = omega arith;
     within = f;
@@ -141,40 +142,40 @@ module _ {b : Text} {k k′ : List ℕ} {n used e v : ℕ} {a : HeldAction} (g :
         (λ o. let z : i ≡ n = omega arith in rw (z, p .acts) h);
   }
 
--- ---- booking
+-- ---- advanced
 
 module _ (a : HeldAction) {b : Text} {k : List ℕ} {n used : ℕ} (e : ℕ) (g : GoodKnown b k n used) where
   pub learns-known : ((t : Text) → knows (between b used e) (knownFrom t b k 0 n) ≡ true) → Learns (learnValue (between b used e) a) a b k n used b k (Kept n used)
-  unfolding learnValue bookAll booked bookOf
+  unfolding learnValue afterEvents afterEvent progressOf
   learns-known f = record {
     beside = same-all;
-    book = λ t ρs z. rw (f t);
+    progress = λ t ρs z. rw (f t);
     good = λ m u e. let x : n ≡ m = cc in let y : used ≡ u = cc in rw (← x, ← y) g;
     held = λ t h fs m u e. let x : n ≡ m = cc in rw (← x) fs;
   }
 
   module _ (r : used + 3 ≤ e) (l : e ≤ length b) where
     -- the test of "a 513th value or over 16,384 bytes of them"
-    test-is : (t : Text) → (leb 512 (length (knownFrom t b k 0 n)) || ltb 16384 (knownBytes (knownFrom t b k 0 n) + length (between b used e))) ≡ (leb 512 n || ltb 16384 e)
+    test-is : (t : Text) → (leb LEARNT_MAX (length (knownFrom t b k 0 n)) || ltb LEARNT_BYTES_MAX (knownBytes (knownFrom t b k 0 n) + length (between b used e))) ≡ (leb LEARNT_MAX n || ltb LEARNT_BYTES_MAX e)
     test-is t = let q : used + (e - used) ≡ e = omega arith in rw (known-length t b k 0 n, bytes-any t [] b k 0 n, ← g .sum, between-length b used e l, q)
 
     module _ (f : (t : Text) → knows (between b used e) (knownFrom t b k 0 n) ≡ false) where
-      pub learns-full : (leb 512 n || ltb 16384 e) ≡ true → Learns (learnValue (between b used e) a) a b k n used b k Full
-      unfolding learnValue bookAll booked bookOf
+      pub learns-full : (leb LEARNT_MAX n || ltb LEARNT_BYTES_MAX e) ≡ true → Learns (learnValue (between b used e) a) a b k n used b k Full
+      unfolding learnValue afterEvents afterEvent progressOf
       learns-full q = record {
         beside = same-all;
-        book = λ t ρs z. rw (f t, test-is t, q);
+        progress = λ t ρs z. rw (f t, test-is t, q);
         good = λ m u e. apart cc;
         held = λ t h fs m u e. apart cc;
       }
 
-      pub learns-more : {k′ : List ℕ} {v : ℕ} → (leb 512 n || ltb 16384 e) ≡ false → v ≡ hashOf (between b used e) → RowPut k n v used (e - used) a k′
+      pub learns-more : {k′ : List ℕ} {v : ℕ} → (leb LEARNT_MAX n || ltb LEARNT_BYTES_MAX e) ≡ false → v ≡ hashOf (between b used e) → RowPut k n v used (e - used) a k′
           → Learns (learnValue (between b used e) a) a b k n used b k′ (Kept (n + 1) e)
-      unfolding learnValue bookAll booked bookOf
+      unfolding learnValue afterEvents afterEvent progressOf
       learns-more q y p =
           let x = more-good g r l y p (not-many n e q) (not-much n e q) in record {
             beside = same-all;
-            book = λ t ρs z. rw (f t, test-is t, q, list-more g r l y p t);
+            progress = λ t ρs z. rw (f t, test-is t, q, list-more g r l y p t);
             good = λ m u o. let i : n + 1 ≡ m = cc in let j : e ≡ u = cc in rw (← i, ← j) x;
             held = λ t h fs m u o. let i : n + 1 ≡ m = cc in rw (← i) (more-held g r l y p t h fs);
           }
@@ -182,10 +183,10 @@ module _ (a : HeldAction) {b : Text} {k : List ℕ} {n used : ℕ} (e : ℕ) (g 
 -- nothing to learn
 pub learns-nothing : {es : Text → List Event} {a : HeldAction} {b b′ : Text} {k : List ℕ} {n used : ℕ} → GoodKnown b k n used → SameTo used b b′ → ((t : Text) → es t ≡ [])
     → Learns es a b k n used b′ k (Kept n used)
-unfolding bookAll bookOf
+unfolding afterEvents progressOf
 learns-nothing {es} {a} {b} {b′} {k} {n} {used} g w f = record {
   beside = w;
-  book = λ t ρs z. rw (f t, known-same g w t);
+  progress = λ t ρs z. rw (f t, known-same g w t);
   good = λ m u e. let x : n ≡ m = cc in let y : used ≡ u = cc in rw (← x, ← y) (good-same g w);
   held = λ t h fs m u e. let x : n ≡ m = cc in rw (← x) fs;
 }
@@ -193,7 +194,7 @@ learns-nothing {es} {a} {b} {b′} {k} {n} {used} g w f = record {
 -- the same events by another definition, learnt where the bytes behind the values have changed
 pub learns-as : {es fs : Text → List Event} {a : HeldAction} {b b′ b″ : Text} {k : List ℕ} {n used : ℕ} {k′ : List ℕ} {r : Learnt}
     → GoodKnown b k n used → SameTo used b b′ → ((t : Text) → es t ≡ fs t) → Learns fs a b′ k n used b″ k′ r → Learns es a b k n used b″ k′ r
-learns-as g w f h = record { beside = same-then w (h .beside); book = λ t ρs z. rw (f t, known-same g w t) (h .book t ρs z); good = h .good; held = h .held }
+learns-as g w f h = record { beside = same-then w (h .beside); progress = λ t ρs z. rw (f t, known-same g w t) (h .progress t ρs z); good = h .good; held = h .held }
 
 -- ---- a leaf
 

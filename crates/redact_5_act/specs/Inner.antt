@@ -10,16 +10,17 @@ use Rattle.er7.specs.declared.separators.Separators.{Separators}
 use Rattle.er7_redact.specs.declared.action.Action.{Action as HeldAction}
 use Rattle.er7_redact.specs.Action.{Action, apply, room}
 use Rattle.message_model.specs.Value.{NULL, isNull, value}
-use Rattle.run_model.specs.Redact.{Fate, stays, becomes, replaced}
+use Rattle.run_model.specs.Redact.{Effect, stays, becomes, replaced}
 use Rattle.redact_5_act.specs.Known.{actionAt}
 use Rattle.redact_5_act.specs.declared.state.Counters.{Counters}
+use Rattle.refusal.specs.Limits.{TEXT_MAX}
 
 -- a leaf under the action null
-unfoldable pub nulled : Text → Fate
+unfoldable pub nulled : Text → Effect
 nulled t = cond (isNull t) stays (becomes NULL)
 
 -- a leaf that is neither empty nor null, under another action
-unfoldable pub onValue : ℕ → Separators → Action → Text → Fate
+unfoldable pub onValue : ℕ → Separators → Action → Text → Effect
 onValue key s a t = replaced s (apply key a (value s t)) (value s t)
 
 -- the value that stands in bytes from behind the learnt values to index `to`; that of a leaf of len bytes
@@ -33,7 +34,7 @@ pub record Decoded (bytes : Text) (to len : ℕ) (c : Counters) : Type 0 where
 
 -- the text that is put in a value's place leaves the message short enough, as long as no byte of it is escaped
 pub record Fits (o : Option Text) (len : ℕ) (c : Counters) : Type 0 where
-  pub few : c .size - len + room o ≤ 49152
+  pub few : c .size - len + room o ≤ TEXT_MAX
 
 -- the first byte of v is marked
 unfoldable pub firstMarked : List Bool → Text → Bool

@@ -14,7 +14,8 @@ use Rattle.er7_redact.specs.declared.action.Action.{Action as HeldAction}
 use Rattle.er7_redact.specs.declared.action.Action.the-variants as Held
 use Rattle.er7_redact.specs.Action.{Action, asAction, ActionHeld}
 use Rattle.refusal.specs.declared.Refusal.the-variants.{TooMuchLearnt}
-use Rattle.run_model.specs.Redact.{Known, knownBytes, Row, Event, learn, learning, Book, running, stopped, bookAll, firstFound, forSweep}
+use Rattle.refusal.specs.Limits.{LEARNT_BYTES_MAX, LEARNT_MAX}
+use Rattle.run_model.specs.Redact.{Known, knownBytes, Row, Event, learn, learning, Progress, running, stopped, afterEvents, firstFound, forSweep}
 use Rattle.redact_5_act.specs.declared.known.Learnt.{Learnt}
 use Rattle.redact_5_act.specs.declared.known.Learnt.the-variants.{Kept, Full}
 
@@ -53,19 +54,19 @@ hashOf v = fold OFFSET v
 
 -- row i lies in the table, and its value, of three bytes at least, in the bytes; so do n rows
 pub record Slot (bytes : Text) (known : List ℕ) (i : ℕ) : Type 0 where
-  pub row : i < 512
-  pub inside : getD known (i * 8 + 1) 0 + getD known (i * 8 + 2) 0 ≤ 16384
+  pub row : i < LEARNT_MAX
+  pub inside : getD known (i * 8 + 1) 0 + getD known (i * 8 + 2) 0 ≤ LEARNT_BYTES_MAX
   pub long : 3 ≤ length (valueAt bytes known i)
   pub hash : getD known (i * 8) 0 ≡ hashOf (valueAt bytes known i)
 
 pub record Slots (bytes : Text) (known : List ℕ) (n : ℕ) : Type 0 where
-  pub few : n ≤ 512
+  pub few : n ≤ LEARNT_MAX
   pub slot : (i : ℕ) → i < n → Slot bytes known i
 
 -- n rows whose values, of three bytes at least, take the first `used` bytes
 pub record GoodKnown (bytes : Text) (known : List ℕ) (n used : ℕ) : Type 0 where
-  pub few : n ≤ 512
-  pub within : used ≤ 16384
+  pub few : n ≤ LEARNT_MAX
+  pub within : used ≤ LEARNT_BYTES_MAX
   pub slots : (i : ℕ) → i < n → (getD known (i * 8 + 1) 0 + getD known (i * 8 + 2) 0 ≤ used) × (3 ≤ length (valueAt bytes known i))
   pub hashes : (i : ℕ) → i < n → getD known (i * 8) 0 ≡ hashOf (valueAt bytes known i)
   pub sum : used ≡ knownBytes (knownFrom [] bytes known 0 n)
@@ -76,10 +77,10 @@ pub record ActionsHeld (text : Text) (known : List ℕ) (n : ℕ) : Type 0 where
 
 -- ---- learning
 
--- the book after it: the values that are known then, or a stop
-unfoldable pub bookOf : Text → Text → List ℕ → List Row → ℕ → Learnt → Book
-bookOf text bytes known ρs z (Kept n used) = running (knownFrom text bytes known 0 n) ρs z
-bookOf text bytes known ρs z Full = stopped TooMuchLearnt
+-- the progress after it: the values that are known then, or a stop
+unfoldable pub progressOf : Text → Text → List ℕ → List Row → ℕ → Learnt → Progress
+progressOf text bytes known ρs z (Kept n used) = running (knownFrom text bytes known 0 n) ρs z
+progressOf text bytes known ρs z Full = stopped TooMuchLearnt
 
 -- the events of a value, and of a leaf with the text t, to be learnt with the action a
 unfoldable pub learnValue : Text → HeldAction → Text → List Event
@@ -88,10 +89,10 @@ learnValue v a text = learn v (asAction text a) ∷ []
 unfoldable pub learnLeaf : Separators → Text → HeldAction → Text → List Event
 learnLeaf s t a text = learning s (asAction text a) (t ∷ [])
 
--- the events es, which learn values for the action a, are booked, where the sweep is on; of the bytes the first `used` are kept
+-- the events es, which learn values for the action a, are recorded, where the sweep is on; of the bytes the first `used` are kept
 pub record Learns (es : Text → List Event) (a : HeldAction) (bytes : Text) (known : List ℕ) (n used : ℕ) (bytes′ : Text) (known′ : List ℕ) (r : Learnt) : Type 0 where
   pub beside : SameTo used bytes bytes′
-  pub book : (text : Text) (ρs : List Row) (z : ℕ) → bookAll true (es text) (running (knownFrom text bytes known 0 n) ρs z) ≡ bookOf text bytes′ known′ ρs z r
+  pub progress : (text : Text) (ρs : List Row) (z : ℕ) → afterEvents true (es text) (running (knownFrom text bytes known 0 n) ρs z) ≡ progressOf text bytes′ known′ ρs z r
   pub good : (m end : ℕ) → r ≡ Kept m end → GoodKnown bytes′ known′ m end
   pub held : (text : Text) → ActionHeld text a → ActionsHeld text known n → (m end : ℕ) → r ≡ Kept m end → ActionsHeld text known′ m
 

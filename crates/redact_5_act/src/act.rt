@@ -21,25 +21,26 @@ ghost use Rattle.run_model.specs.Redact.{becomes, replaced};
 ghost use Rattle.run_model.specs.Redact as Spec;
 ghost use Rattle.redact_5_act.specs.Act.{Acted, ActedBeside, ActRoom, LeafHeld};
 ghost use Rattle.redact_5_act.specs.Inner.{nulled, onValue, decodedAt, Decoded, Fits};
+ghost use Rattle.refusal.specs.Limits.{TEXT_MAX};
 
 // What becomes of a leaf: its text stays, or is of that length, or would leave the message too long.
-pub enum Fate {
+pub enum Effect {
     Stays,
     Becomes(usize),
     TooLong,
 }
 
 // Writes the null behind the texts in store, in the place of went bytes of the message.
-pub fn put_null(store: &mut [u8; 98304], went: usize, c: Counters) -> Fate
-    requires { ⌜ (c .size ≤ 49152) × (c .size - went + 2 ≤ 49152 → c .used + 2 ≤ 98304) ⌝ }
+pub fn put_null(store: &mut [u8; 98304], went: usize, c: Counters) -> Effect
+    requires { ⌜ (c .size - went + 2 ≤ TEXT_MAX → c .used + 2 ≤ 98304) ⌝ }
     ensures { λ r. ⌜ Acted (becomes NULL) went c (now (store .entry)) (now (store .exit)) r ⌝ }
 {
     if is_over(c.size, went, 2) {
-        return Fate::TooLong;
+        return Effect::TooLong;
     }
     let used = c.used;
     copy_at(store, used, b"\"\"");
-    Fate::Becomes(2)
+    Effect::Becomes(2)
 }
 
 // The value of n bytes that stands behind the texts in store, its delimiters escaped, in the place of a leaf of len bytes.
@@ -51,8 +52,8 @@ fn put_escaped(
     store: &mut [u8; 98304],
     bytes: &mut [u8; 65536],
     c: Counters,
-) -> Fate
-    requires { ⌜ ActRoom len c × (c .used + n ≤ 98304) × (n ≤ 49152) ⌝ }
+) -> Effect
+    requires { ⌜ ActRoom len c × (c .used + n ≤ 98304) × (n ≤ TEXT_MAX) ⌝ }
     ensures { λ r. ⌜ ActedBeside (becomes (encode s (part (now (store .entry)) (c .used) n))) len c (now (store .entry)) (now (store .exit)) (now (bytes .entry)) (now (bytes .exit)) r ⌝ }
 {
     let used = c.used;
@@ -60,17 +61,17 @@ fn put_escaped(
     let all = &store[..];
     let m = escape::encoded_len(&all[used..end], s);
     if is_over(c.size, len, m) {
-        return Fate::TooLong;
+        return Effect::TooLong;
     }
     if m == n {
-        return Fate::Becomes(n);
+        return Effect::Becomes(n);
     }
     let from = c.known_used;
     let raw = &store[..];
     let to = copy_at(bytes, from, &raw[used..end]);
     let value = &bytes[..];
     escape::encode(&value[from..to], s, store, used);
-    Fate::Becomes(m)
+    Effect::Becomes(m)
 }
 
 // What the action a, which writes n bytes, puts in the place of the value that stands in bytes from behind the learnt values to index to, unless it is the same.
@@ -83,7 +84,7 @@ fn put_value(
     store: &mut [u8; 98304],
     bytes: &mut [u8; 65536],
     c: Counters,
-) -> Fate
+) -> Effect
     requires { ⌜ ActionHeld (now text) a × ActRoom len c × Decoded (now bytes) to len c × Fits (Actions.apply (on .key) (asAction (now text) a) (decodedAt (now bytes) to c)) len c ⌝ }
     ensures { λ r. ⌜ ActedBeside (replaced (on .separators) (some (written (Actions.apply (on .key) (asAction (now (text .entry)) a) (decodedAt (now (bytes .entry)) to c)))) (decodedAt (now (bytes .entry)) to c)) len c (now (store .entry)) (now (store .exit)) (now (bytes .entry)) (now (bytes .exit)) r ⌝ }
 {
@@ -93,7 +94,7 @@ fn put_value(
     let end = action::apply(a, text, on.key, &value[from..to], store, used);
     let all = &store[..];
     if same_bytes(&all[used..end], &value[from..to]) {
-        return Fate::Stays;
+        return Effect::Stays;
     }
     put_escaped(on.separators, end - used, len, store, bytes, c)
 }
@@ -108,17 +109,17 @@ fn put_applied(
     store: &mut [u8; 98304],
     bytes: &mut [u8; 65536],
     c: Counters,
-) -> Fate
+) -> Effect
     requires { ⌜ ActionHeld (now text) a × ActRoom len c × Decoded (now bytes) to len c ⌝ }
     ensures { λ r. ⌜ ActedBeside (replaced (on .separators) (Actions.apply (on .key) (asAction (now (text .entry)) a) (decodedAt (now (bytes .entry)) to c)) (decodedAt (now (bytes .entry)) to c)) len c (now (store .entry)) (now (store .exit)) (now (bytes .entry)) (now (bytes .exit)) r ⌝ }
 {
     let from = c.known_used;
     let value = &bytes[..];
     match action::applied_len(a, &value[from..to]) {
-        Applied::Nothing => Fate::Stays,
+        Applied::Nothing => Effect::Stays,
         Applied::Written(n) => {
             if is_over(c.size, len, n) {
-                return Fate::TooLong;
+                return Effect::TooLong;
             }
             put_value(on, a, text, to, len, store, bytes, c)
         }
@@ -126,14 +127,14 @@ fn put_applied(
 }
 
 // The action null on the leaf of len bytes in store from index start on.
-fn act_null(start: usize, len: usize, store: &mut [u8; 98304], c: Counters) -> Fate
+fn act_null(start: usize, len: usize, store: &mut [u8; 98304], c: Counters) -> Effect
     requires { ⌜ LeafHeld start len c ⌝ }
     ensures { λ r. ⌜ Acted (nulled (part (now (store .entry)) start len)) len c (now (store .entry)) (now (store .exit)) r ⌝ }
 {
     let end = start + len;
     let all = &store[..];
     if escape::is_null(&all[start..end]) {
-        return Fate::Stays;
+        return Effect::Stays;
     }
     put_null(store, len, c)
 }
@@ -148,7 +149,7 @@ fn act_value(
     store: &mut [u8; 98304],
     bytes: &mut [u8; 65536],
     c: Counters,
-) -> Fate
+) -> Effect
     requires { ⌜ ActionHeld (now text) a × LeafHeld start len c ⌝ }
     ensures { λ r. ⌜ ActedBeside (onValue (on .key) (on .separators) (asAction (now (text .entry)) a) (part (now (store .entry)) start len)) len c (now (store .entry)) (now (store .exit)) (now (bytes .entry)) (now (bytes .exit)) r ⌝ }
 {
@@ -169,7 +170,7 @@ pub fn act(
     store: &mut [u8; 98304],
     bytes: &mut [u8; 65536],
     c: Counters,
-) -> Fate
+) -> Effect
     requires { ⌜ ActionHeld (now text) a × LeafHeld start len c ⌝ }
     ensures { λ r. ⌜ ActedBeside (Spec.act (on .key) (on .separators) (asAction (now (text .entry)) a) (part (now (store .entry)) start len)) len c (now (store .entry)) (now (store .exit)) (now (bytes .entry)) (now (bytes .exit)) r ⌝ }
 {
@@ -179,7 +180,7 @@ pub fn act(
     let end = start + len;
     let all = &store[..];
     if escape::is_empty_or_null(&all[start..end]) {
-        return Fate::Stays;
+        return Effect::Stays;
     }
     act_value(on, a, text, start, len, store, bytes, c)
 }

@@ -5,6 +5,8 @@ use er7_redact::action::Action;
 use er7_value::word;
 use pseudonym::OFFSET;
 use pseudonym::fold;
+use refusal::limits::LEARNT_BYTES_MAX;
+use refusal::limits::LEARNT_MAX;
 use text::bytes::same_bytes;
 ghost use mathlib.Core.Path.{_≡_};
 ghost use Prim.Native.Nat.{_+_, _*_, _≤_, _<_};
@@ -15,6 +17,10 @@ ghost use Rattle.er7_value.specs.Starts.{Starts};
 ghost use Rattle.run_model.specs.Redact as Spec;
 ghost use Rattle.redact_5_act.specs.Known.{actionOf, actionAt, valueAt, hashOf, knownFrom, Slot, Slots, GoodKnown, learnValue, learnLeaf, Learns, foundIn, sweptIn, FoundAt, Swept};
 ghost use Rattle.redact_5_act.specs.Inner.{firstMarked, RowPut};
+ghost use Rattle.refusal.specs.Limits.{LEARNT_MAX, TEXT_MAX};
+
+// The cells of the table of learnt values: eight for each.
+pub const KNOWN_CELLS: usize = LEARNT_MAX * 8;
 
 // How many values are known, and how many bytes they take; or that there are too many.
 pub enum Learnt {
@@ -108,7 +114,7 @@ fn is_value(
     i: usize,
     e: usize,
     h: usize,
-    known: &[usize; 4096],
+    known: &[usize; KNOWN_CELLS],
     k: usize,
 ) -> bool
     requires { ⌜ Slot (now bytes) (now known) k × (i ≤ e) × (e ≤ 65536) × (h ≡ hashOf (between (now bytes) i e)) ⌝ }
@@ -125,7 +131,12 @@ fn is_value(
 }
 
 // Whether the value of row k begins with a byte that is marked.
-fn may_have(bytes: &[u8; 65536], starts: &[bool; 256], known: &[usize; 4096], k: usize) -> bool
+fn may_have(
+    bytes: &[u8; 65536],
+    starts: &[bool; 256],
+    known: &[usize; KNOWN_CELLS],
+    k: usize,
+) -> bool
     requires { ⌜ Slot (now bytes) (now known) k ⌝ }
     ensures { λ r. ⌜ r ≡ firstMarked (now (starts .entry)) (valueAt (now (bytes .entry)) (now (known .entry)) k) ⌝ }
 {
@@ -141,7 +152,7 @@ fn has_value(
     i: usize,
     e: usize,
     starts: &[bool; 256],
-    known: &[usize; 4096],
+    known: &[usize; KNOWN_CELLS],
     k: usize,
 ) -> bool
     requires { ⌜ Slot (now bytes) (now known) k × (i ≤ e) × (e ≤ 65536) × Starts (between (now bytes) i e) (now starts) ⌝ }
@@ -158,8 +169,8 @@ fn has_value(
 }
 
 // The action of row i.
-pub fn action_at(known: &[usize; 4096], i: usize) -> Action
-    requires { ⌜ i < 512 ⌝ }
+pub fn action_at(known: &[usize; KNOWN_CELLS], i: usize) -> Action
+    requires { ⌜ i < LEARNT_MAX ⌝ }
     ensures { λ r. ⌜ r ≡ actionAt (now (known .entry)) i ⌝ }
 {
     let row = i * 8;
@@ -167,7 +178,14 @@ pub fn action_at(known: &[usize; 4096], i: usize) -> Action
 }
 
 // Whether the bytes from index i to index e, whose hash is h, are one of n learnt values.
-fn knows(bytes: &[u8; 65536], i: usize, e: usize, h: usize, known: &[usize; 4096], n: usize) -> bool
+fn knows(
+    bytes: &[u8; 65536],
+    i: usize,
+    e: usize,
+    h: usize,
+    known: &[usize; KNOWN_CELLS],
+    n: usize,
+) -> bool
     requires { ⌜ Slots (now bytes) (now known) n × (i ≤ e) × (e ≤ 65536) × (h ≡ hashOf (between (now bytes) i e)) ⌝ }
     ensures { λ r. ⌜ ((text : Text) → r ≡ Spec.knows (between (now (bytes .entry)) i e) (knownFrom text (now (bytes .entry)) (now (known .entry)) 0 n)) ⌝ }
 {
@@ -182,7 +200,7 @@ fn knows(bytes: &[u8; 65536], i: usize, e: usize, h: usize, known: &[usize; 4096
 }
 
 // The row of the first of n learnt values that is a whole word of the bytes from index i to index e, which are in lower case; or n.
-fn found(bytes: &[u8; 65536], i: usize, e: usize, known: &[usize; 4096], n: usize) -> usize
+fn found(bytes: &[u8; 65536], i: usize, e: usize, known: &[usize; KNOWN_CELLS], n: usize) -> usize
     requires { ⌜ Slots (now bytes) (now known) n × (i ≤ e) × (e ≤ 65536) ⌝ }
     ensures { λ r. ⌜ FoundAt (foundIn (between (now (bytes .entry)) i e) (now (bytes .entry)) (now (known .entry)) n) (now (known .entry)) n r ⌝ }
 {
@@ -204,11 +222,11 @@ pub fn for_sweep(
     s: Separators,
     t: &[u8],
     bytes: &mut [u8; 65536],
-    known: &[usize; 4096],
+    known: &[usize; KNOWN_CELLS],
     n: usize,
     used: usize,
 ) -> usize
-    requires { ⌜ GoodKnown (now bytes) (now known) n used × (length (now t) ≤ 49152) ⌝ }
+    requires { ⌜ GoodKnown (now bytes) (now known) n used × (length (now t) ≤ TEXT_MAX) ⌝ }
     ensures { λ r. ⌜ Swept s (now (t .entry)) (now (bytes .entry)) (now (bytes .exit)) (now (known .entry)) n used r ⌝ }
 {
     if t.len() < 3 {
@@ -238,7 +256,7 @@ fn learn(
     a: Action,
     e: usize,
     bytes: &[u8; 65536],
-    known: &mut [usize; 4096],
+    known: &mut [usize; KNOWN_CELLS],
     n: usize,
     used: usize,
 ) -> Learnt
@@ -249,7 +267,7 @@ fn learn(
     if knows(bytes, used, e, h, known, n) {
         return Learnt::Kept(n, used);
     }
-    if (512 <= n) | (16384 < e) {
+    if (LEARNT_MAX <= n) | (LEARNT_BYTES_MAX < e) {
         return Learnt::Full;
     }
     put_known(known, n, h, used, e - used, a);
@@ -262,11 +280,11 @@ pub fn learn_leaf(
     s: Separators,
     t: &[u8],
     bytes: &mut [u8; 65536],
-    known: &mut [usize; 4096],
+    known: &mut [usize; KNOWN_CELLS],
     n: usize,
     used: usize,
 ) -> Learnt
-    requires { ⌜ GoodKnown (now bytes) (now known) n used × (length (now t) ≤ 49152) ⌝ }
+    requires { ⌜ GoodKnown (now bytes) (now known) n used × (length (now t) ≤ TEXT_MAX) ⌝ }
     ensures { λ r. ⌜ Learns (learnLeaf s (now (t .entry)) a) a (now (bytes .entry)) (now (known .entry)) n used (now (bytes .exit)) (now (known .exit)) r ⌝ }
 {
     if action::is_keep(a) | (t.len() < 3) {

@@ -1,11 +1,13 @@
 // What holds for a whole run, and how far it has come.
 use er7::separators::Separators;
 use refusal::Refusal;
+use refusal::limits::TEXT_MAX;
 ghost use mathlib.Core.Path.{_≡_};
 ghost use mathlib.Core.Bool.{not};
-ghost use Prim.Native.Nat.{_+_, _-_, _^_, _≤_, _<_};
+ghost use Prim.Native.Nat.{_+_, _-_};
 ghost use lib.Dec.{ltb};
 ghost use Rattle.redact_5_act.specs.State.{counted};
+ghost use Rattle.refusal.specs.Limits.{TEXT_MAX};
 
 // What holds for a whole run: the key, the delimiters, whether values are learnt, and how many segments and leaves the message has.
 pub struct Setting {
@@ -60,7 +62,7 @@ pub fn write_tally(tally: &mut [usize; 6], c: Counters)
 }
 
 // a - b, or 0 where b is more.
-pub fn less(a: usize, b: usize) -> usize
+pub fn saturating_sub(a: usize, b: usize) -> usize
     ensures { λ r. ⌜ r ≡ a - b ⌝ }
 {
     if a < b {
@@ -71,8 +73,10 @@ pub fn less(a: usize, b: usize) -> usize
 
 // Whether a message of size bytes is too long with came bytes in the place of went.
 pub fn is_over(size: usize, went: usize, came: usize) -> bool
-    requires { ⌜ size + came < 2 ^ 64 ⌝ }
-    ensures { λ r. ⌜ r ≡ ltb 49152 (size - went + came) ⌝ }
+    ensures { λ r. ⌜ r ≡ ltb TEXT_MAX (size - went + came) ⌝ }
 {
-    49152 < less(size, went) + came
+    if TEXT_MAX < came {
+        return true;
+    }
+    TEXT_MAX - came < saturating_sub(size, went)
 }

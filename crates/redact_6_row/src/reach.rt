@@ -4,6 +4,7 @@ use er7::message::Place;
 use er7::path::Path;
 use er7_redact::action::is_null_action;
 use er7_redact::policy::Rule;
+use er7_table::table::is_header_name;
 ghost use mathlib.Core.Path.{_≡_};
 ghost use Rattle.text.specs.Text.{Text};
 ghost use Rattle.er7.specs.Path.{asPath};
@@ -25,7 +26,10 @@ pub enum Reach {
 pub fn touchable(g: Label, p: Place) -> bool
     ensures { λ r. ⌜ r ≡ Message.touchable (asLabel g) p ⌝ }
 {
-    !(g.header & (p.field <= 2))
+    if 2 < p.field {
+        return true;
+    }
+    !is_header_name(g.a, g.b, g.c)
 }
 
 // Whether an index of a path, 0 where it is absent, fits the one that was found.

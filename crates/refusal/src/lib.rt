@@ -1,4 +1,7 @@
-// The refusals of the entries, each with its number.
+// The refusals of the entries, each with its number; and the bytes that a message, a policy and a payload may hold.
+pub mod input;
+pub mod limits;
+
 ghost use mathlib.Core.Path.{_≡_};
 ghost use Rattle.refusal.specs.Refusal as R;
 

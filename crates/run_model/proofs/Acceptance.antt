@@ -6,22 +6,24 @@ use Prim.Native.Nat.{ℕ, _+_}
 use lib.Dec.{ltb}
 use lib.ListN.{length}
 use borrow.Author.Tests.{ltb-false}
-use Rattle.text.specs.Text.{Text, all}
+use Rattle.text.specs.Text.{Text}
 use Rattle.text.proofs.Laws.{clash}
 use Rattle.refusal.specs.declared.Refusal.{Refusal}
 use Rattle.refusal.specs.declared.Refusal.the-variants.{ShortBuffer, TooLong, ForeignByte, TooMany, Withheld, NoSuchBuiltin}
-use Rattle.refusal.specs.Refusal.{number, tooLong}
+use Rattle.refusal.specs.Refusal.{number, tooLong, noForeign}
+use Rattle.refusal.specs.declared.input.Input.the-variants as Inputs
+use Rattle.refusal.specs.Limits.{RULES_MAX}
 use Rattle.message_model.specs.Message.{messageOf, messageFault, printMessage}
 use Rattle.policy_model.specs.Policy as Q
 use Rattle.policy_model.specs.Policy.{Policy, PolicyRead, read, readPolicy, Unrecognised, pass, refuse, apply}
 use Rattle.policy_model.specs.Builtin.{builtinText}
 use Rattle.policy_model.proofs.PolicyReadBack.{builtin-reads}
 use Rattle.run_model.specs.Redact.{redact}
-use Rattle.run_model.specs.Entries.{Answer, done, refused, Lent, LentReport, numberOf, outcome, outcomeWithReport, isShort, withBuffers, withPolicy, withoutFault, reported, redactAnswer, printed, printAnswer, mergedAnswer, appendAnswer, builtinAnswer, isPayloadByte, payloadFault, unrecognised, payloadAnswer, redactOutcome, printOutcome, appendOutcome, builtinOutcome, payloadOutcome}
+use Rattle.run_model.specs.Entries.{Answer, done, refused, Lent, LentReport, numberOf, outcome, outcomeWithReport, isShort, withBuffers, withPolicy, withoutFault, reported, redactAnswer, printedPolicy, printAnswer, mergedAnswer, appendAnswer, builtinAnswer, payloadFault, unrecognised, payloadAnswer, redactOutcome, printOutcome, appendOutcome, builtinOutcome, payloadOutcome}
 use Rattle.run_model.specs.Table.{is, bufferRow, policyRow, withPolicyRow, messageRow, runRow, rowOfRedact, rowOfPrint, rowOfAppend, rowOfBuiltin, refuses, rowOfPayload, Exactly}
 use Rattle.run_model.proofs.Accepted.{number-positive}
 use Rattle.run_model.proofs.Judged.{Judges, or-false, or-left, or-right, and-none, policyRefusal, policy-judged, message-judged}
-use Rattle.run_model.proofs.Booked.{refusalIn, run-judged}
+use Rattle.run_model.proofs.Progress.{refusalIn, run-judged}
 
 -- ---- one part after another
 
@@ -72,28 +74,28 @@ print-judged : (b : Lent) (p : Text) → Judges (rowOfPrint b p) (refusalIn (pri
 unfolding rowOfPrint printAnswer
 print-judged b p = buffers-judged b (policyRow p) _ (go (readPolicy p) (policy-judged p))
   where
-    go : (r : PolicyRead) → Judges (policyRow p) (policyRefusal r) → Judges (policyRow p) (refusalIn (withPolicy r printed))
-    go (read P) k = unfold policyRefusal withPolicy printed refusalIn in k
+    go : (r : PolicyRead) → Judges (policyRow p) (policyRefusal r) → Judges (policyRow p) (refusalIn (withPolicy r printedPolicy))
+    go (read P) k = unfold policyRefusal withPolicy printedPolicy refusalIn in k
     go (Q.refused e n) k = unfold policyRefusal withPolicy refusalIn in k
 
 -- the merged rules are too many, or not
-merged-judged : (P R : Policy) → Judges (λ e. is e TooMany && ltb 128 (length (P .rules) + length (R .rules))) (refusalIn (mergedAnswer P R))
-unfolding mergedAnswer printed
-merged-judged P R = go (ltb 128 (length (P .rules) + length (R .rules))) refl
+merged-judged : (P R : Policy) → Judges (λ e. is e TooMany && ltb RULES_MAX (length (P .rules) + length (R .rules))) (refusalIn (mergedAnswer P R))
+unfolding mergedAnswer printedPolicy
+merged-judged P R = go (ltb RULES_MAX (length (P .rules) + length (R .rules))) refl
   where
-    go : (c : Bool) → ltb 128 (length (P .rules) + length (R .rules)) ≡ c
-        → Judges (λ e. is e TooMany && ltb 128 (length (P .rules) + length (R .rules))) (refusalIn (cond c (refused TooMany 0) (printed (Q.merged P R))))
+    go : (c : Bool) → ltb RULES_MAX (length (P .rules) + length (R .rules)) ≡ c
+        → Judges (λ e. is e TooMany && ltb RULES_MAX (length (P .rules) + length (R .rules))) (refusalIn (cond c (refused TooMany 0) (printedPolicy (Q.merged P R))))
     go true e = unfold refusalIn is number in e
-    go false e = unfold refusalIn printed in λ x. and-none (is x TooMany) e
+    go false e = unfold refusalIn printedPolicy in λ x. and-none (is x TooMany) e
 
 append-judged : (b : Lent) (p q : Text) → Judges (rowOfAppend b p q) (refusalIn (appendAnswer b p q))
 unfolding rowOfAppend appendAnswer withPolicyRow
 append-judged b p q =
     buffers-judged b _ _
     (policy-then p
-    (λ r e. policyRow q e || withPolicyRow r λ P. withPolicyRow (readPolicy q) λ R. is e TooMany && ltb 128 (length (P .rules) + length (R .rules)))
+    (λ r e. policyRow q e || withPolicyRow r λ P. withPolicyRow (readPolicy q) λ R. is e TooMany && ltb RULES_MAX (length (P .rules) + length (R .rules)))
     (λ P. withPolicy (readPolicy q) λ R. mergedAnswer P R)
-    (λ P _. policy-then q (λ r e. withPolicyRow r λ R. is e TooMany && ltb 128 (length (P .rules) + length (R .rules))) (λ R. mergedAnswer P R)
+    (λ P _. policy-then q (λ r e. withPolicyRow r λ R. is e TooMany && ltb RULES_MAX (length (P .rules) + length (R .rules))) (λ R. mergedAnswer P R)
     (λ R _. merged-judged P R)))
 
 -- a built-in always reads
@@ -102,16 +104,16 @@ unfolding rowOfBuiltin builtinAnswer
 builtin-judged b n = buffers-judged b (λ e. is e NoSuchBuiltin && ltb 3 n) _ (go (ltb 3 n) refl)
   where
     go : (c : Bool) → ltb 3 n ≡ c
-        → Judges (λ e. is e NoSuchBuiltin && ltb 3 n) (refusalIn (cond c (refused NoSuchBuiltin 0) (withPolicy (readPolicy (builtinText n)) printed)))
+        → Judges (λ e. is e NoSuchBuiltin && ltb 3 n) (refusalIn (cond c (refused NoSuchBuiltin 0) (withPolicy (readPolicy (builtinText n)) printedPolicy)))
     go true e = unfold refusalIn is number in e
-    go false e = unfold withPolicy printed refusalIn in rw (builtin-reads n (ltb-false 3 n e) .1) (λ x. and-none (is x NoSuchBuiltin) e)
+    go false e = unfold withPolicy printedPolicy refusalIn in rw (builtin-reads n (ltb-false 3 n e) .1) (λ x. and-none (is x NoSuchBuiltin) e)
 
-payload-fault-judged : (t : Text) → Judges (λ e. is e TooLong && tooLong t || is e ForeignByte && not (all isPayloadByte t)) (payloadFault t)
+payload-fault-judged : (t : Text) → Judges (λ e. is e TooLong && tooLong t || is e ForeignByte && not (noForeign Inputs.Payload t)) (payloadFault t)
 unfolding payloadFault
-payload-fault-judged t = go (tooLong t) (all isPayloadByte t) refl refl
+payload-fault-judged t = go (tooLong t) (noForeign Inputs.Payload t) refl refl
   where
-    go : (a c : Bool) → tooLong t ≡ a → all isPayloadByte t ≡ c
-        → Judges (λ e. is e TooLong && tooLong t || is e ForeignByte && not (all isPayloadByte t)) (cond a (some TooLong) (cond (not c) (some ForeignByte) none))
+    go : (a c : Bool) → tooLong t ≡ a → noForeign Inputs.Payload t ≡ c
+        → Judges (λ e. is e TooLong && tooLong t || is e ForeignByte && not (noForeign Inputs.Payload t)) (cond a (some TooLong) (cond (not c) (some ForeignByte) none))
     go true c e f = unfold is number in rw e
     go false false e f = unfold is number in rw f
     go false true e f = λ x. or-false (and-none (is x TooLong) e) (and-none (is x ForeignByte) (rw f))
@@ -127,9 +129,9 @@ unfolding rowOfPayload payloadAnswer withPolicyRow
 payload-judged b t p key =
     buffers-judged b _ _
     (policy-then p
-    (λ r e. (is e TooLong && tooLong t || is e ForeignByte && not (all isPayloadByte t)) || withPolicyRow r λ P. is e Withheld && refuses (P .unrecognised))
+    (λ r e. (is e TooLong && tooLong t || is e ForeignByte && not (noForeign Inputs.Payload t)) || withPolicyRow r λ P. is e Withheld && refuses (P .unrecognised))
     (λ P. withoutFault (payloadFault t) (unrecognised key (P .unrecognised) t))
-    (λ P _. fault-then (λ e. is e TooLong && tooLong t || is e ForeignByte && not (all isPayloadByte t)) (λ e. is e Withheld && refuses (P .unrecognised))
+    (λ P _. fault-then (λ e. is e TooLong && tooLong t || is e ForeignByte && not (noForeign Inputs.Payload t)) (λ e. is e Withheld && refuses (P .unrecognised))
     (payloadFault t) (unrecognised key (P .unrecognised) t) (payload-fault-judged t) (withheld-judged key (P .unrecognised) t)))
 
 -- ---- "Success is 0, exactly when no row applies"

@@ -7,7 +7,7 @@ use Prim.Native.Nat.{ℕ, _+_, _≤_}
 use native.Mathlib.Omega.{arith}
 use borrow.Author.Tests.{ne-eqb}
 use lib.Dec.{eqb}
-use lib.ListN.{length, take, length-append}
+use lib.ListN.{length, take, drop}
 use Rattle.text.specs.Text.{Text}
 use Rattle.text.proofs.Laws.{clash, and-false, and-true, by-cond}
 use Rattle.er7.specs.Path.{Path}
@@ -15,13 +15,13 @@ use Rattle.er7.specs.declared.message.Place.{Place}
 use Rattle.er7.specs.declared.separators.Separators.{Separators}
 use Rattle.er7_redact.specs.Action.{Action, isNullAction}
 use Rattle.er7_redact.specs.Policy.{Rule}
-use Rattle.message_model.specs.Message.{Leaf, leaf, Label, Segment, segment, endsLeaf, next, leaves, leavesBehind, atField, leavesOf, isNamed, segments, messageOf, segmentsFault, messageFault, touchable}
+use Rattle.message_model.specs.Message.{Leaf, leaf, Label, Segment, segment, endsLeaf, next, leaves, leavesBehind, atField, isHeaderName, headerLeaves, leavesOf, isNamed, segments, messageOf, segmentsFault, messageFault, touchable}
 use Rattle.message_model.proofs.Places.{Positive, positive-field, positive-piece}
-use Rattle.message_model.proofs.Faultless.{three, named-line, faultless-lines, faultless, segments-are}
+use Rattle.message_model.proofs.Faultless.{three, header-line, named-line, faultless-lines, faultless, segments-are}
 use Rattle.message_model.specs.Chain.{Piece, a-field, a-repetition, a-component, a-subcomponent, nextPlace, Chain, Chained}
 use Rattle.run_model.specs.Order.{FieldFirst, FieldsFirst}
-use Rattle.run_model.specs.Redact.{fits, reaches, covers, Depth, by-field, by-repetition, by-component, Reach, each-leaf, each-node, depth, reach, isNode, starts, Fate, stays, vanishes, becomes, after, fate, ruleLeaf, isUnnamed, actOr, unnamedLeaf, overLeaves, overSegments, afterRule}
-use Rattle.run_model.proofs.InStep.{isGone, vanishing, act-gone, fateIn-gone}
+use Rattle.run_model.specs.Redact.{fits, reaches, covers, Depth, by-field, by-repetition, by-component, Reach, each-leaf, each-node, depth, reach, isNode, starts, Effect, stays, vanishes, becomes, after, effect, ruleLeaf, isUnnamed, actOr, unnamedLeaf, overLeaves, overSegments, afterRule}
+use Rattle.run_model.proofs.InStep.{isGone, vanishing, act-gone, effectIn-gone}
 
 -- ---- the nodes of a depth
 
@@ -113,19 +113,19 @@ covers-next r g d p q e h n i = go (next-node d p q h n)
 
 -- ---- a leaf in its pass
 
-after-live : (F : Fate) (t : Text) → isGone F ≡ false → (u : Text) × (after F t ≡ some u)
+after-live : (F : Effect) (t : Text) → isGone F ≡ false → (u : Text) × (after F t ≡ some u)
 unfolding after
 after-live stays t e = (t, refl)
 after-live (becomes w) t e = (w, refl)
 after-live vanishes t e = clash e
 
-after-gone : (F : Fate) (t : Text) → isGone F ≡ true → after F t ≡ none
+after-gone : (F : Effect) (t : Text) → isGone F ≡ true → after F t ≡ none
 unfolding after
 after-gone stays t e = clash (sym e)
 after-gone (becomes w) t e = clash (sym e)
 after-gone vanishes t e = refl
 
-gone-is : (b v : Bool) (F : Fate) → isGone F ≡ v → isGone (cond b F stays) ≡ b && v
+gone-is : (b v : Bool) (F : Effect) → isGone F ≡ v → isGone (cond b F stays) ≡ b && v
 gone-is true v F e = e
 gone-is false v F e = refl
 
@@ -166,7 +166,7 @@ cond-both true x = refl
 cond-both false x = refl
 
 -- a leaf at q, next to p, in a rule that collapses nodes; b and c say whether the rule covers p and q
-module _ (d : Depth) (p q : Place) (m : Bool) (F : Fate) (t : Text) (zs : List Leaf) where
+module _ (d : Depth) (p q : Place) (m : Bool) (F : Effect) (t : Text) (zs : List Leaf) where
   chain-node : NextNode d p q → Next p q → (b c : Bool) → (starts d q ≡ false → c ≡ b)
       → isGone F ≡ c && not (starts d q) → Chain (cond c (nodePlace d q) q) zs → Chain (cond b (nodePlace d p) p) (leaf q m (after F t) ∷ zs)
   chain-node (same-node a f) k true true w v ch = rw (after-gone F t (rw a at v)) (rw f at ch)
@@ -177,11 +177,11 @@ module _ (d : Depth) (p q : Place) (m : Bool) (F : Fate) (t : Text) (zs : List L
   chain-node (new-node a j f) k false c w v ch = rw (after-live F t (v ∙ rw (a, and-false)) .1) (k, rw (f, cond-both) at ch)
 
 module _ (key : ℕ) (s : Separators) (r : Rule) (g : Label) where
-  pub rule-gone : (p : Place) (t : Text) (xs : List Leaf) → isGone (fate key s r g p t xs) ≡ covers r g p && vanishing (reach r) p
-  unfolding fate
-  rule-gone p t xs = gone-is (covers r g p) _ _ (fateIn-gone key s (reach r) (r .action) p t xs)
+  pub rule-gone : (p : Place) (t : Text) (xs : List Leaf) → isGone (effect key s r g p t xs) ≡ covers r g p && vanishing (reach r) p
+  unfolding effect
+  rule-gone p t xs = gone-is (covers r g p) _ _ (effectIn-gone key s (reach r) (r .action) p t xs)
 
-  pub rule-live : reach r ≡ each-leaf → (p : Place) (t : Text) (xs : List Leaf) → isGone (fate key s r g p t xs) ≡ false
+  pub rule-live : reach r ≡ each-leaf → (p : Place) (t : Text) (xs : List Leaf) → isGone (effect key s r g p t xs) ≡ false
   rule-live e p t xs = rule-gone p t xs ∙ rw (e, and-false)
 
   rule-keeps : reach r ≡ each-leaf → Keeps (ruleLeaf key s r) g
@@ -190,7 +190,7 @@ module _ (key : ℕ) (s : Separators) (r : Rule) (g : Label) where
       record {
         vanished = λ p n xs. refl;
         live = λ p n t xs.
-            let u = after-live (fate key s r g p t xs) t (rule-live e p t xs) in
+            let u = after-live (effect key s r g p t xs) t (rule-live e p t xs) in
             (n || covers r g p && not (isNode (reach r)), u .0, rw (u .1));
       }
 
@@ -201,7 +201,7 @@ module _ (key : ℕ) (s : Separators) (r : Rule) (g : Label) where
   node-chain d e (leaf q n none ∷ xs) p h c = node-chain d e xs p h c
   node-chain d e (leaf q n (some t) ∷ xs) p h c =
       let m = n || covers r g q && not (isNode (reach r)) in
-      chain-node d p q m (fate key s r g q t xs) t (overLeaves (ruleLeaf key s r) g xs)
+      chain-node d p q m (effect key s r g q t xs) t (overLeaves (ruleLeaf key s r) g xs)
       (next-node d p q h (c .0)) (c .0) (covers r g p) (covers r g q) (covers-next r g d p q e h (c .0))
       (rule-gone q t xs ∙ rw e) (node-chain d e xs q (positive-at p q h (c .0)) (c .1))
 
@@ -210,7 +210,7 @@ module _ (key : ℕ) (s : Separators) (r : Rule) (g : Label) where
   node-first d e [] h = tt
   node-first d e (leaf q n none ∷ xs) h = node-first d e xs h
   node-first d e (leaf q n (some t) ∷ xs) h =
-      rw (after-live (fate key s r g q t xs) t (rule-gone q t xs ∙ rw (e, field-starts d q h, and-false)) .1) h
+      rw (after-live (effect key s r g q t xs) t (rule-gone q t xs ∙ rw (e, field-starts d q h, and-false)) .1) h
 
   rule-chain : (q : Reach) → reach r ≡ q → (xs : List Leaf) → Chain (atField 0) xs → Chain (atField 0) (overLeaves (ruleLeaf key s r) g xs)
   rule-chain each-leaf e xs c = keeps-chain (ruleLeaf key s r) g (rule-keeps e) xs (atField 0) c
@@ -281,30 +281,31 @@ module _ (s : Separators) where
   unfolding next starts
   field-begins x p e = rw e
 
-  pub named-first : (l : Text) → isNamed s l ≡ true → FieldFirst (leavesOf s false l)
-  unfolding leavesOf leavesBehind
-  named-first [] e = tt
-  named-first (a ∷ []) e = tt
-  named-first (a ∷ b ∷ []) e = tt
-  named-first (a ∷ b ∷ c ∷ []) e = tt
-  named-first (a ∷ b ∷ c ∷ x ∷ t) e =
+  behind-first : (l : Text) → isNamed s l ≡ true → FieldFirst (leavesBehind s (atField 0) (drop 3 l))
+  unfolding leavesBehind
+  behind-first [] e = tt
+  behind-first (a ∷ []) e = tt
+  behind-first (a ∷ b ∷ []) e = tt
+  behind-first (a ∷ b ∷ c ∷ []) e = tt
+  behind-first (a ∷ b ∷ c ∷ x ∷ t) e =
       let f = named-line s (a ∷ b ∷ c ∷ x ∷ t) e .behind in
       leaves-first t [] _ (field-begins x (atField 0) (rw (ne-eqb (length (a ∷ b ∷ c ∷ x ∷ t)) 3 (λ q. omega arith)) at f))
 
-  pub others-first : (ls seen : List Text) (k n : ℕ) → 1 ≤ length seen → 1 ≤ k → segmentsFault s k n ls ≡ none → FieldsFirst (segments s seen ls)
+  pub named-first : (l : Text) → isNamed s l ≡ true → FieldFirst (leavesOf s l)
+  unfolding leavesOf
+  named-first l e = rw (named-line s l e .no-header) (behind-first l e)
+
+  pub others-first : (ls seen : List Text) (k n : ℕ) → 1 ≤ k → segmentsFault s k n ls ≡ none → FieldsFirst (segments s seen ls)
   unfolding segments
-  others-first [] seen k n q h e = tt
-  others-first (l ∷ ls) seen k n q h e =
+  others-first [] seen k n h e = tt
+  others-first (l ∷ ls) seen k n h e =
       let f = faultless-lines s k n l ls e in
       let z : eqb k 0 ≡ false = ne-eqb k 0 (λ e. omega arith) in
-      let y : eqb (length seen) 0 ≡ false = ne-eqb (length seen) 0 (λ e. omega arith) in (
-        rw y (named-first l (rw z at (f .named-or-first))),
-        others-first ls (seen ++ take 3 l ∷ []) (k + 1) _ (simp length-append (omega arith)) (omega arith) (f .others),
-      )
+      (named-first l (rw z at (f .named-or-first)), others-first ls (seen ++ take 3 l ∷ []) (k + 1) _ (omega arith) (f .others))
 
-  header-first : (l : Text) (ls : List Text) → segmentsFault s 0 0 (l ∷ ls) ≡ none → FieldsFirst (segments s [] (l ∷ ls))
-  unfolding segments leavesOf atField starts
-  header-first l ls e = (refl, others-first ls (take 3 l ∷ []) 1 _ (omega arith) (omega arith) (faultless-lines s 0 0 l ls e .others))
+  header-first : (l : Text) (ls : List Text) → isHeaderName (take 3 l) ≡ true → segmentsFault s 0 0 (l ∷ ls) ≡ none → FieldsFirst (segments s [] (l ∷ ls))
+  unfolding segments leavesOf headerLeaves atField starts
+  header-first l ls h e = (rw h refl, others-first ls (take 3 l ∷ []) 1 _ (omega arith) (faultless-lines s 0 0 l ls e .others))
 
 pub message-fields-first : (t : Text) → messageFault t ≡ none → FieldsFirst (messageOf t .segments)
-message-fields-first t e = let f = faultless t e in rw (segments-are t f) (header-first _ (f .line) (f .others) (f .no-fault))
+message-fields-first t e = let f = faultless t e in rw (segments-are t f) (header-first _ (f .line) (f .others) (header-line (f .line) (f .header) .header) (f .no-fault))

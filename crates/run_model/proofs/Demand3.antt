@@ -6,10 +6,10 @@ use Prim.Native.Nat.{ℕ}
 use lib.Dec.{T}
 use lib.ListN.{length, take}
 use lib.Seq.{take-at}
-use Rattle.text.specs.Text.{Text}
+use Rattle.text.specs.Text.{Text, bytes, same}
 use Rattle.er7.specs.declared.separators.Separators.{Separators}
 use Rattle.er7_redact.specs.Policy.{Rule}
-use Rattle.message_model.specs.Message.{Leaf, Label, Segment, segment, Message, messageOf, atField, touchable}
+use Rattle.message_model.specs.Message.{Leaf, Label, Segment, segment, Message, messageOf, isHeaderName, atField, touchable}
 use Rattle.message_model.proofs.Delimiters.{separators-same}
 use Rattle.message_model.proofs.Messages.{headerLabel, delimiterLeaves, HeaderFirst, leaves-of-header}
 use Rattle.run_model.specs.Redact as R
@@ -28,20 +28,20 @@ uncovered [] g n h = tt
 uncovered (r ∷ rs) g n h = rw h (uncovered rs g n h)
 
 -- two headers with alike leaves: MSH, FHS or BHS
-leaves-separators : (rs : List Rule) (g : Label) → g .header ≡ true → (s z : Separators) (xs ys : List Leaf)
+leaves-separators : (rs : List Rule) (g : Label) → isHeaderName (g .name) ≡ true → (s z : Separators) (xs ys : List Leaf)
     → AlikeLeaves rs g (delimiterLeaves s xs) (delimiterLeaves z ys) → s ≡ z
 unfolding touchable atField
 leaves-separators rs g h s z xs ys (AlikeLeaves.next p t u e (AlikeLeaves.next q v w f k)) =
     separators-same s z (e (uncovered rs g 1 (rw h))) (f (uncovered rs g 2 (rw h)))
 
-pub header-separators : (rs : List Rule) (a b : Label) → a .header ≡ true → (s z : Separators) (xs ys : List Leaf) (ss zs : List Segment)
+pub header-separators : (rs : List Rule) (a b : Label) → isHeaderName (a .name) ≡ true → (s z : Separators) (xs ys : List Leaf) (ss zs : List Segment)
     → AlikeSegments rs (segment a (delimiterLeaves s xs) ∷ ss) (segment b (delimiterLeaves z ys) ∷ zs) → s ≡ z
 header-separators rs a b h s z xs ys ss zs (AlikeSegments.next g w v) = leaves-separators rs a h s z xs ys w
 
 pub same-separators : (rs : List Rule) (a b : Message) → HeaderFirst (a .separators) (a .segments) → HeaderFirst (b .separators) (b .segments)
     → Alike rs a b → a .separators ≡ b .separators
 same-separators rs a b f g h =
-    header-separators rs headerLabel headerLabel refl (a .separators) (b .separators) (f .rest) (g .rest) (f .others) (g .others)
+    header-separators rs headerLabel headerLabel (unfold isHeaderName same bytes in refl) (a .separators) (b .separators) (f .rest) (g .rest) (f .others) (g .others)
     (subst (λ (z : List Segment). AlikeSegments rs (segment headerLabel (delimiterLeaves (a .separators) (f .rest)) ∷ f .others) z) (g .are)
     (subst (λ (z : List Segment). AlikeSegments rs z (b .segments)) (f .are) (h .segments)))
 

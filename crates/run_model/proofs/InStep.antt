@@ -15,7 +15,7 @@ use Rattle.er7_redact.specs.Action.{Action, keep, clear, null, pseudonym, repla
 use Rattle.er7_redact.specs.Policy.{Rule}
 use Rattle.message_model.specs.Message.{Leaf, leaf, Label, Segment, segment}
 use Rattle.message_model.specs.Value.{isNull, isEmptyOrNull, value}
-use Rattle.run_model.specs.Redact.{covers, Depth, Reach, each-leaf, each-node, reach, isNode, starts, restOfNode, Fate, stays, vanishes, becomes, after, moved, replaced, act, isNil, collapse, fateIn, fate, Row, row, Event, learn, change, changing, learning, took, ruleLeaf, ruleEvents, overLeaves, leavesEvents, segmentsEvents, afterRule, afterRules, rulesEvents}
+use Rattle.run_model.specs.Redact.{covers, Depth, Reach, each-leaf, each-node, reach, isNode, starts, restOfNode, Effect, stays, vanishes, becomes, after, moved, replaced, act, isNil, collapse, effectIn, effect, Row, row, Event, learn, change, changing, learning, textsAt, ruleLeaf, ruleEvents, overLeaves, leavesEvents, segmentsEvents, afterRule, afterRules, rulesEvents}
 use Rattle.run_model.specs.Table.{rowsOf}
 use Rattle.run_model.specs.Counts.{ruleTurns, rowCounts}
 use Rattle.run_model.specs.Demand.{atLeaf, at, text, textAt, acts, actsAt, collapsed, ChangedAt, SettledAt}
@@ -44,24 +44,24 @@ rest-nil d (gone p n w) = rest-nil d w
 rest-nil d (live p n t u w) = alone-none (starts d p) _ _ refl
 
 module _ (key : ℕ) (s : Separators) where
-  fateIn-shape : (q : Reach) (a : Action) (p : Place) (t : Text) {xs ys : List Leaf} → SameShape xs ys
-      → fateIn key s q a p t xs ≡ fateIn key s q a p t ys
-  unfolding fateIn
-  fateIn-shape each-leaf a p t w = refl
-  fateIn-shape (each-node d) a p t w = ap (λ (z : Bool). collapse (starts d p) (isNull t && z)) (rest-nil d w)
+  effectIn-shape : (q : Reach) (a : Action) (p : Place) (t : Text) {xs ys : List Leaf} → SameShape xs ys
+      → effectIn key s q a p t xs ≡ effectIn key s q a p t ys
+  unfolding effectIn
+  effectIn-shape each-leaf a p t w = refl
+  effectIn-shape (each-node d) a p t w = ap (λ (z : Bool). collapse (starts d p) (isNull t && z)) (rest-nil d w)
 
-  fate-shape : (r : Rule) (g : Label) (p : Place) (t : Text) {xs ys : List Leaf} → SameShape xs ys → fate key s r g p t xs ≡ fate key s r g p t ys
-  unfolding fate
-  fate-shape r g p t w = ap (λ (z : Fate). cond (covers r g p) z stays) (fateIn-shape (reach r) (r .action) p t w)
+  effect-shape : (r : Rule) (g : Label) (p : Place) (t : Text) {xs ys : List Leaf} → SameShape xs ys → effect key s r g p t xs ≡ effect key s r g p t ys
+  unfolding effect
+  effect-shape r g p t w = ap (λ (z : Effect). cond (covers r g p) z stays) (effectIn-shape (reach r) (r .action) p t w)
 
 -- which leaves vanish does not depend on their text
 
-abbrev pub isGone : Fate → Bool
+abbrev pub isGone : Effect → Bool
 isGone stays = false
 isGone (becomes w) = false
 isGone vanishes = true
 
-gone-cond : (b c : Bool) (F G : Fate) → isGone F ≡ c → isGone G ≡ c → isGone (cond b F G) ≡ c
+gone-cond : (b c : Bool) (F G : Effect) → isGone F ≡ c → isGone G ≡ c → isGone (cond b F G) ≡ c
 gone-cond true c F G e f = e
 gone-cond false c F G e f = f
 
@@ -87,23 +87,23 @@ module _ (key : ℕ) (s : Separators) where
   collapse-gone true false = refl
   collapse-gone false c = refl
 
-  pub fateIn-gone : (q : Reach) (a : Action) (p : Place) (t : Text) (xs : List Leaf) → isGone (fateIn key s q a p t xs) ≡ vanishing q p
-  unfolding fateIn
-  fateIn-gone each-leaf a p t xs = act-gone a t
-  fateIn-gone (each-node d) a p t xs = collapse-gone (starts d p) _
+  pub effectIn-gone : (q : Reach) (a : Action) (p : Place) (t : Text) (xs : List Leaf) → isGone (effectIn key s q a p t xs) ≡ vanishing q p
+  unfolding effectIn
+  effectIn-gone each-leaf a p t xs = act-gone a t
+  effectIn-gone (each-node d) a p t xs = collapse-gone (starts d p) _
 
-  gone-covered : (b : Bool) (F G : Fate) → isGone F ≡ isGone G → isGone (cond b F stays) ≡ isGone (cond b G stays)
+  gone-covered : (b : Bool) (F G : Effect) → isGone F ≡ isGone G → isGone (cond b F stays) ≡ isGone (cond b G stays)
   gone-covered true F G e = e
   gone-covered false F G e = refl
 
-  fate-gone : (r : Rule) (g : Label) (p : Place) (t u : Text) (xs ys : List Leaf) → isGone (fate key s r g p t xs) ≡ isGone (fate key s r g p u ys)
-  unfolding fate
-  fate-gone r g p t u xs ys =
-      gone-covered (covers r g p) _ _ (fateIn-gone (reach r) (r .action) p t xs ∙ sym (fateIn-gone (reach r) (r .action) p u ys))
+  effect-gone : (r : Rule) (g : Label) (p : Place) (t u : Text) (xs ys : List Leaf) → isGone (effect key s r g p t xs) ≡ isGone (effect key s r g p u ys)
+  unfolding effect
+  effect-gone r g p t u xs ys =
+      gone-covered (covers r g p) _ _ (effectIn-gone (reach r) (r .action) p t xs ∙ sym (effectIn-gone (reach r) (r .action) p u ys))
 
 -- the shape after a rule
 
-shape-after : (p : Place) (n : Bool) (F G : Fate) (t u : Text) {xs ys : List Leaf} → isGone F ≡ isGone G → SameShape xs ys
+shape-after : (p : Place) (n : Bool) (F G : Effect) (t u : Text) {xs ys : List Leaf} → isGone F ≡ isGone G → SameShape xs ys
     → SameShape (leaf p n (after F t) ∷ xs) (leaf p n (after G u) ∷ ys)
 unfolding after
 shape-after p n stays stays t u e w = live p n _ _ w
@@ -121,7 +121,7 @@ module _ (key : ℕ) (s : Separators) (r : Rule) where
   unfolding ruleLeaf
   turn-shape g end = end
   turn-shape g (gone p n w) = gone p n (turn-shape g w)
-  turn-shape g (live p n t u w) = shape-after p _ _ _ t u (fate-gone key s r g p t u _ _) (turn-shape g w)
+  turn-shape g (live p n t u w) = shape-after p _ _ _ t u (effect-gone key s r g p t u _ _) (turn-shape g w)
 
   turn-segs : {ss zs : List Segment} → SameShapes ss zs → SameShapes (afterRule key s r ss) (afterRule key s r zs)
   unfolding afterRule
@@ -137,7 +137,7 @@ module _ (key : ℕ) (s : Separators) (r : Rule) where
   turn-text g (gone p n w) (suc j) e = turn-text g w j e
   turn-text g (live {xs = xs} p n t u w) zero e =
       let h : t ≡ u = Option·some-injective t u e in
-      ap (λ (v : Text). after (fate key s r g p v xs) v) h ∙ ap (λ (F : Fate). after F u) (fate-shape key s r g p u w)
+      ap (λ (v : Text). after (effect key s r g p v xs) v) h ∙ ap (λ (F : Effect). after F u) (effect-shape key s r g p u w)
   turn-text g (live p n t u w) (suc j) e = turn-text g w j e
 
   turn-textAt : {ss zs : List Segment} → SameShapes ss zs → (i j : ℕ) → textAt ss i j ≡ textAt zs i j
@@ -158,18 +158,18 @@ rows-cond : (b : Bool) (a c : List Event) → rowsOf a ≡ [] → rowsOf c ≡ [
 rows-cond true a c e f = e
 rows-cond false a c e f = f
 
-abbrev fateRows : Row → Fate → List Row
-fateRows ρ stays = []
-fateRows ρ (becomes w) = ρ ∷ []
-fateRows ρ vanishes = []
+abbrev effectRows : Row → Effect → List Row
+effectRows ρ stays = []
+effectRows ρ (becomes w) = ρ ∷ []
+effectRows ρ vanishes = []
 
-rows-changing : (ρ : Row) (went : ℕ) (F : Fate) → rowsOf (changing ρ went F) ≡ fateRows ρ F
+rows-changing : (ρ : Row) (went : ℕ) (F : Effect) → rowsOf (changing ρ went F) ≡ effectRows ρ F
 unfolding changing
 rows-changing ρ went stays = refl
 rows-changing ρ went (becomes w) = refl
 rows-changing ρ went vanishes = refl
 
-rows-moved : (ρ : Row) (F G : Fate) → isGone F ≡ isGone G → T (moved F) → T (moved G) → fateRows ρ F ≡ fateRows ρ G
+rows-moved : (ρ : Row) (F G : Effect) → isGone F ≡ isGone G → T (moved F) → T (moved G) → effectRows ρ F ≡ effectRows ρ G
 unfolding moved
 rows-moved ρ stays G e h k = absurd h
 rows-moved ρ (becomes w) stays e h k = absurd k
@@ -205,32 +205,32 @@ module _ (key : ℕ) (s : Separators) where
   rows-learning a (t ∷ ts) = rows-cond (isKeep a || isEmptyOrNull t || ltb (length (lower (value s t))) 3) _ _ (rows-learning a ts) (rows-learning a ts)
 
   says-rows : (r : Rule) (g : Label) (p : Place) (n : Bool) (t : Text) (xs : List Leaf)
-      → rowsOf (ruleEvents key s r g (leaf p n (some t)) xs) ≡ fateRows (row g p (r .action)) (fate key s r g p t xs)
+      → rowsOf (ruleEvents key s r g (leaf p n (some t)) xs) ≡ effectRows (row g p (r .action)) (effect key s r g p t xs)
   unfolding ruleEvents
   says-rows r g p n t xs =
-      rows-append (cond (covers r g p) (learning s (r .action) (took (reach r) p t xs)) []) _
+      rows-append (cond (covers r g p) (learning s (r .action) (textsAt (reach r) p t xs)) []) _
       ∙ ap₂ (λ (a b : List Row). a ++ b)
-      (rows-cond (covers r g p) _ _ (rows-learning (r .action) (took (reach r) p t xs)) refl)
-      (rows-changing (row g p (r .action)) _ (fate key s r g p t xs))
+      (rows-cond (covers r g p) _ _ (rows-learning (r .action) (textsAt (reach r) p t xs)) refl)
+      (rows-changing (row g p (r .action)) _ (effect key s r g p t xs))
 
   -- a rule that does not cover a leaf, or keeps it, leaves it
-  pub keep-stays : (r : Rule) (p : Place) (t : Text) (xs : List Leaf) → r .action ≡ keep → fateIn key s (reach r) (r .action) p t xs ≡ stays
-  unfolding reach isNullAction kind fateIn act replaced apply
+  pub keep-stays : (r : Rule) (p : Place) (t : Text) (xs : List Leaf) → r .action ≡ keep → effectIn key s (reach r) (r .action) p t xs ≡ stays
+  unfolding reach isNullAction kind effectIn act replaced apply
   keep-stays r p t xs e = rw e (cond-stays (isEmptyOrNull t))
 
-  idle : (r : Rule) (g : Label) (p : Place) → T (covers r g p && not (isKeep (r .action))) ⊎ ((t : Text) (xs : List Leaf) → fate key s r g p t xs ≡ stays)
-  unfolding fate
+  idle : (r : Rule) (g : Label) (p : Place) → T (covers r g p && not (isKeep (r .action))) ⊎ ((t : Text) (xs : List Leaf) → effect key s r g p t xs ≡ stays)
+  unfolding effect
   idle r g p = by (covers r g p) (isKeep (r .action)) (keep-is (r .action))
     where
       by : (b c : Bool) → (T c → r .action ≡ keep)
-          → T (b && not c) ⊎ ((t : Text) (xs : List Leaf) → cond b (fateIn key s (reach r) (r .action) p t xs) stays ≡ stays)
+          → T (b && not c) ⊎ ((t : Text) (xs : List Leaf) → cond b (effectIn key s (reach r) (r .action) p t xs) stays ≡ stays)
       by true true k = inr (λ t xs. keep-stays r p t xs (k tt))
       by true false k = inl tt
       by false c k = inr (λ t xs. refl)
 
   abbrev moves : Rule → Label → Leaf → List Leaf → Bool
   moves r g (leaf p n none) xs = false
-  moves r g (leaf p n (some t)) xs = moved (fate key s r g p t xs)
+  moves r g (leaf p n (some t)) xs = moved (effect key s r g p t xs)
 
   abbrev Fair : Rule → Label → List Leaf → List Leaf → ℕ → Type 0
   Fair r g xs ys j =
@@ -239,13 +239,13 @@ module _ (key : ℕ) (s : Separators) where
 
   rows-leaf : (r : Rule) (g : Label) (p : Place) (n : Bool) (t u : Text) {xs ys : List Leaf} → SameShape xs ys
       → Fair r g (leaf p n (some t) ∷ xs) (leaf p n (some u) ∷ ys) zero
-      → fateRows (row g p (r .action)) (fate key s r g p t xs) ≡ fateRows (row g p (r .action)) (fate key s r g p u ys)
+      → effectRows (row g p (r .action)) (effect key s r g p t xs) ≡ effectRows (row g p (r .action)) (effect key s r g p u ys)
   rows-leaf r g p n t u {xs} {ys} w (inl e) =
-      ap (fateRows (row g p (r .action))) (ap (λ (v : Text). fate key s r g p v xs) (Option·some-injective t u e) ∙ fate-shape key s r g p u w)
+      ap (effectRows (row g p (r .action))) (ap (λ (v : Text). effect key s r g p v xs) (Option·some-injective t u e) ∙ effect-shape key s r g p u w)
   rows-leaf r g p n t u {xs} {ys} w (inr h) =
       ⊎-elim
-      (λ k. let m = cond-yes _ _ (covers r g p && not (isKeep (r .action))) k h in rows-moved _ _ _ (fate-gone key s r g p t u xs ys) (m .0) (m .1))
-      (λ k. ap (fateRows (row g p (r .action))) (k t xs ∙ sym (k u ys)))
+      (λ k. let m = cond-yes _ _ (covers r g p && not (isKeep (r .action))) k h in rows-moved _ _ _ (effect-gone key s r g p t u xs ys) (m .0) (m .1))
+      (λ k. ap (effectRows (row g p (r .action))) (k t xs ∙ sym (k u ys)))
       (idle r g p)
 
   rows-in : (r : Rule) (g : Label) {xs ys : List Leaf} → SameShape xs ys → ((j : ℕ) → Fair r g xs ys j)
@@ -262,7 +262,7 @@ module _ (key : ℕ) (s : Separators) where
 
 -- ---- what the statement calls changed has moved
 
-moved-text : (F : Fate) (t : Text) → (some t ≡ after F t → ⊥) → T (moved F)
+moved-text : (F : Effect) (t : Text) → (some t ≡ after F t → ⊥) → T (moved F)
 unfolding after moved
 moved-text stays t h = absurd (h refl)
 moved-text (becomes w) t h = tt

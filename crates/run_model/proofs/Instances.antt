@@ -15,14 +15,15 @@ use Rattle.er7_redact.specs.Action.{Action, keep, clear, null, mask}
 use Rattle.er7_redact.specs.Policy.{Rule, accept, reject}
 use Rattle.er7.specs.declared.message.Place.{Place}
 use Rattle.message_model.specs.Message.{Leaf, leaf, Label, segment, messageOf}
-use Rattle.policy_model.specs.Policy.{Policy, refuse}
+use Rattle.policy_model.specs.Policy.{Policy, read, readPolicy, refuse}
 use Rattle.run_model.specs.Redact.{Row, learn, change, beforeSweep}
 use Rattle.run_model.specs.Entries.{LentReport, redactOutcome}
 use Rattle.run_model.specs.Demand.{NothingToSweep, NotInSegments, AlikeLeaves, AlikeSegments, TwoCalls, Settled, Unswept, SameResult}
 use Rattle.run_model.proofs.Computes.{computes}
+use Rattle.refusal.specs.Limits.{TEXT_MAX}
 
 abbrev lent : ℕ → LentReport
-lent n = record { buffers = record { output = 49152; scratch = 49152 }; report = n }
+lent n = record { buffers = record { output = TEXT_MAX; scratch = TEXT_MAX }; report = n }
 
 abbrev firstField : Action → Rule
 firstField a = record { path = record { segment = bytes "PID"; occurrence = 0; field = 1; repetition = 0; component = 0; subcomponent = 0 }; action = a }
@@ -46,12 +47,18 @@ Is t none = ⊥
 Is t (some u) = T (same t u)
 
 -- a header of two leaves, and behind it a segment
-behind-header : (rs : List Rule) (g h : Label) (p q : Place) (t u : Text) (xs ys : List Leaf) → AlikeLeaves rs h xs ys
+behind-header : {rs : List Rule} {g h : Label} {p q : Place} {t u : Text} {xs ys : List Leaf} → AlikeLeaves rs h xs ys
     → AlikeSegments rs (segment g (leaf p false (some t) ∷ leaf q false (some u) ∷ []) ∷ segment h xs ∷ [])
     (segment g (leaf p false (some t) ∷ leaf q false (some u) ∷ []) ∷ segment h ys ∷ [])
-behind-header rs g h p q t u xs ys w =
+behind-header {g = g} {h = h} {p = p} {q = q} {t = t} {u = u} w =
     AlikeSegments.next g (AlikeLeaves.next p t t (λ _. refl) (AlikeLeaves.next q u u (λ _. refl) AlikeLeaves.end))
     (AlikeSegments.next h w AlikeSegments.end)
+
+-- two calls under the key 0
+two-calls : {policy : Text} {P : Policy} {m n : Text} {b c : LentReport} → readPolicy policy ≡ read P → redactOutcome b m policy 0 .number ≡ 0
+    → redactOutcome c n policy 0 .number ≡ 0 → messageOf m .lastCR ≡ messageOf n .lastCR
+    → AlikeSegments (P .rules) (messageOf m .segments) (messageOf n .segments) → TwoCalls policy 0 P m n b c
+two-calls r f s l g = record { policy-reads = r; first-accepted = f; second-accepted = s; alike = record { lastCR = l; segments = g } }
 
 -- ---- an instance: a first field of abc and one of xyz, masked, before a field that has neither
 
@@ -70,16 +77,7 @@ second = bytes "MSH|^~\\&\rPID|xyz|hello"
 
 calls : TwoCalls masks 0 P first second (lent 65536) (lent 23)
 unfolding computes
-calls =
-    record {
-      policy-reads = refl;
-      first-accepted = refl;
-      second-accepted = refl;
-      alike = record {
-        lastCR = refl;
-        segments = behind-header _ _ _ _ _ _ _ _ _ (AlikeLeaves.next _ _ _ (λ h. absurd h) (AlikeLeaves.next _ _ _ (λ h. refl) AlikeLeaves.end));
-      };
-    }
+calls = two-calls refl refl refl refl (behind-header (AlikeLeaves.next _ _ _ (λ h. absurd h) (AlikeLeaves.next _ _ _ (λ h. refl) AlikeLeaves.end)))
 
 settled : Settled 0 P (messageOf first) (messageOf second)
 unfolding computes
@@ -134,15 +132,7 @@ pub keep-passed :
     × Unswept 0 K (messageOf nulled) (messageOf full) × (nulled ≡ full → ⊥)
 unfolding computes
 keep-passed = (
-  record {
-    policy-reads = refl;
-    first-accepted = refl;
-    second-accepted = refl;
-    alike = record {
-      lastCR = refl;
-      segments = behind-header _ _ _ _ _ _ _ _ _ (AlikeLeaves.next _ _ _ (λ h. absurd h) (AlikeLeaves.next _ _ _ (λ h. absurd h) AlikeLeaves.end));
-    };
-  },
+  two-calls refl refl refl refl (behind-header (AlikeLeaves.next _ _ _ (λ h. absurd h) (AlikeLeaves.next _ _ _ (λ h. absurd h) AlikeLeaves.end))),
   only-behind _ _ (λ d. (inr tt, inr tt, refl)) (λ d. absurd (d refl)) (λ d. d refl) (λ d. d refl) (λ j d. d refl) (λ j d. d refl) (λ i j d. d refl),
   inr ((λ v l. absurd (no-change v (l .0) _ _ _ (l .1))), (λ v l. absurd (no-change v (l .0) _ _ _ (l .1)))),
   λ e. absurd (subst (λ (t : Text). T (same nulled t)) e tt),
@@ -164,15 +154,7 @@ pub vanished-covered :
     × Unswept 0 C (messageOf full) (messageOf other) × (full ≡ other → ⊥)
 unfolding computes
 vanished-covered = (
-  record {
-    policy-reads = refl;
-    first-accepted = refl;
-    second-accepted = refl;
-    alike = record {
-      lastCR = refl;
-      segments = behind-header _ _ _ _ _ _ _ _ _ (AlikeLeaves.next _ _ _ (λ h. absurd h) (AlikeLeaves.next _ _ _ (λ h. absurd h) AlikeLeaves.end));
-    };
-  },
+  two-calls refl refl refl refl (behind-header (AlikeLeaves.next _ _ _ (λ h. absurd h) (AlikeLeaves.next _ _ _ (λ h. absurd h) AlikeLeaves.end))),
   only-behind _ _ (λ d. (inr tt, inr tt, refl)) (λ d. (inr tt, inr tt, refl)) (λ d. d refl) (λ d. d refl) (λ j d. d refl) (λ j d. d refl) (λ i j d. d refl),
   inr ((λ v l. absurd (no-change v (l .0) _ _ _ (l .1))), (λ v l. absurd (no-change v (l .0) _ _ _ (l .1)))),
   λ e. absurd (subst (λ (t : Text). T (same full t)) e tt),
@@ -197,15 +179,7 @@ pub settled-needed :
     × (SameResult (redactOutcome (lent 65536) three shortens 0) (redactOutcome (lent 65536) four shortens 0) → ⊥)
 unfolding computes
 settled-needed = (
-  record {
-    policy-reads = refl;
-    first-accepted = refl;
-    second-accepted = refl;
-    alike = record {
-      lastCR = refl;
-      segments = behind-header _ _ _ _ _ _ _ _ _ (AlikeLeaves.next _ _ _ (λ h. absurd h) AlikeLeaves.end);
-    };
-  },
+  two-calls refl refl refl refl (behind-header (AlikeLeaves.next _ _ _ (λ h. absurd h) AlikeLeaves.end)),
   inl tt,
   λ h. let e : _≡_ {A = ℕ} 1 2 = h .rows in omega arith,
 )
@@ -223,15 +197,7 @@ pub unswept-needed :
     × (SameResult (redactOutcome (lent 65536) swept masks 0) (redactOutcome (lent 65536) unswept masks 0) → ⊥)
 unfolding computes
 unswept-needed = (
-  record {
-    policy-reads = refl;
-    first-accepted = refl;
-    second-accepted = refl;
-    alike = record {
-      lastCR = refl;
-      segments = behind-header _ _ _ _ _ _ _ _ _ (AlikeLeaves.next _ _ _ (λ h. absurd h) (AlikeLeaves.next _ _ _ (λ h. refl) AlikeLeaves.end));
-    };
-  },
+  two-calls refl refl refl refl (behind-header (AlikeLeaves.next _ _ _ (λ h. absurd h) (AlikeLeaves.next _ _ _ (λ h. refl) AlikeLeaves.end))),
   only-behind _ _ (λ d. (inl (λ e. subst (Is (bytes "abc")) e tt), inl (λ e. subst (Is (bytes "xyz")) e tt), refl)) (λ d. absurd (d refl))
       (λ d. d refl) (λ d. d refl) (λ j d. d refl) (λ j d. d refl) (λ i j d. d refl),
   λ h. let e : _≡_ {A = ℕ} 2 1 = h .rows in omega arith,

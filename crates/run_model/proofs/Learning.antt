@@ -11,7 +11,7 @@ use Rattle.er7.specs.declared.separators.Separators.{Separators}
 use Rattle.er7_redact.specs.Action.{Action}
 use Rattle.message_model.specs.Message.{Leaf, leaf, Label, Segment, segment}
 use Rattle.message_model.specs.Value.{isEmptyOrNull, value, isWholeWord}
-use Rattle.run_model.specs.Redact.{Fate, stays, vanishes, becomes, after, act, Row, Event, learn, change, changing, isUnnamed, actOr, unnamedLeaf, changingOr, unnamedEvents, overLeaves, overSegments, leavesEvents, segmentsEvents, Known, firstFound, forSweep}
+use Rattle.run_model.specs.Redact.{Effect, stays, vanishes, becomes, after, act, Row, Event, learn, change, changing, isUnnamed, actOr, unnamedLeaf, changingOr, unnamedEvents, overLeaves, overSegments, leavesEvents, segmentsEvents, Known, firstFound, forSweep}
 use Rattle.run_model.specs.Demand.{NotIn, NotInLeaves, NotInSegments}
 
 -- ---- what events learn
@@ -72,7 +72,7 @@ module _ (key : ℕ) (s : Separators) where
   still-leaf ks g (leaf p n none) xs h = (refl, refl)
   still-leaf ks g (leaf p n (some t)) xs h =
       let e = still (isUnnamed g p n) g p t (forSweep s ks t) (λ f. cond-none (isEmptyOrNull t) _ (find-none _ ks (known-map _ _ ks (λ v q. q f) h))) in
-      (ap (λ (F : Fate). leaf p n (after F t)) (e .0), e .1)
+      (ap (λ (F : Effect). leaf p n (after F t)) (e .0), e .1)
 
   still-in : (ks : List Known) (g : Label) (xs : List Leaf) → AllKnown (λ v. NotInLeaves s v g xs) ks
       → (overLeaves (unnamedLeaf key s (forSweep s ks)) g xs ≡ xs) × (leavesEvents (unnamedEvents key s (forSweep s ks)) g xs ≡ [])
@@ -96,7 +96,7 @@ learns-cond : (Q : Text → Type 0) (b : Bool) (a c : List Event) → Learns Q a
 learns-cond Q true a c h k = h
 learns-cond Q false a c h k = k
 
-learns-changing : (Q : Text → Type 0) (ρ : Row) (went : ℕ) (F : Fate) → Learns Q (changing ρ went F)
+learns-changing : (Q : Text → Type 0) (ρ : Row) (went : ℕ) (F : Effect) → Learns Q (changing ρ went F)
 unfolding changing
 learns-changing Q ρ went stays = tt
 learns-changing Q ρ went (becomes w) = tt

@@ -2,7 +2,7 @@ pub mod Computes
 pub mod InStep
 pub mod Learning
 pub mod Judged
-pub mod Booked
+pub mod Progress
 pub mod TwoMessages
 pub mod Accepted
 pub mod Demand3

@@ -7,11 +7,12 @@ use lib.Dec.{ltb}
 use lib.ListN.{length, take}
 use Rattle.text.specs.Text.{Text}
 use Rattle.refusal.specs.declared.Refusal.the-variants.{ShortBuffer, TooMany, NoSuchBuiltin}
+use Rattle.refusal.specs.Limits.{RULES_MAX}
 use Rattle.policy_model.specs.Policy as Q
 use Rattle.policy_model.specs.Policy.{Policy, PolicyRead, read, readPolicy, merged, printPolicy}
 use Rattle.policy_model.specs.Builtin.{builtinText}
 use Rattle.policy_model.proofs.PolicyReadBack.{policy-read-back, merged-read-back}
-use Rattle.run_model.specs.Entries.{Answer, done, refused, Lent, filled, numberOf, textOf, outcome, isShort, withBuffers, withPolicy, printed, mergedAnswer, printAnswer, appendAnswer, builtinAnswer, printOutcome, appendOutcome, builtinOutcome, textLeft}
+use Rattle.run_model.specs.Entries.{Answer, done, refused, Lent, filled, numberOf, textOf, outcome, isShort, withBuffers, withPolicy, printedPolicy, mergedAnswer, printAnswer, appendAnswer, builtinAnswer, printOutcome, appendOutcome, builtinOutcome, textLeft}
 use Rattle.run_model.proofs.Accepted.{Succeeds, number-positive}
 use Rattle.run_model.proofs.Demand3.{filled-front}
 
@@ -47,7 +48,7 @@ left-reads W b a f h = let r = f (unfold outcome in h) in (r .0, r .1, rw (left-
 
 pub print-leaves : (b : Lent) (policy : Text) → printOutcome b policy .number ≡ 0
     → (P : Policy) × (readPolicy policy ≡ read P) × (readPolicy (textLeft (printOutcome b policy)) ≡ read P)
-unfolding printOutcome printAnswer printed
+unfolding printOutcome printAnswer printedPolicy
 print-leaves b policy =
     left-reads (λ P. readPolicy policy ≡ read P) b _ (buffers-read _ b _ (policy-reads _ policy _ (λ P e h. (P, e, policy-read-back policy P e))))
 
@@ -61,15 +62,15 @@ record MergedFrom (first second : Text) (M : Policy) : Type 0 where
 
 merged-leaves : (b : Lent) (first second : Text) → appendOutcome b first second .number ≡ 0
     → (M : Policy) × MergedFrom first second M × (readPolicy (textLeft (appendOutcome b first second)) ≡ read M)
-unfolding appendOutcome appendAnswer mergedAnswer printed
+unfolding appendOutcome appendAnswer mergedAnswer printedPolicy
 merged-leaves b first second =
     left-reads (MergedFrom first second) b _
-    (buffers-read _ b _ (policy-reads _ first _ (λ P e. policy-reads _ second _ (λ R f. both P R e f (ltb 128 (length (P .rules) + length (R .rules))) refl))))
+    (buffers-read _ b _ (policy-reads _ first _ (λ P e. policy-reads _ second _ (λ R f. both P R e f (ltb RULES_MAX (length (P .rules) + length (R .rules))) refl))))
   where
-    both : (P R : Policy) → readPolicy first ≡ read P → readPolicy second ≡ read R → (c : Bool) → ltb 128 (length (P .rules) + length (R .rules)) ≡ c → Reads (MergedFrom first second) (mergedAnswer P R)
+    both : (P R : Policy) → readPolicy first ≡ read P → readPolicy second ≡ read R → (c : Bool) → ltb RULES_MAX (length (P .rules) + length (R .rules)) ≡ c → Reads (MergedFrom first second) (mergedAnswer P R)
     both P R e f true q h = absurd (number-positive TooMany (rw q at h))
     both P R e f false q h =
-        (merged P R, record { one = P; two = R; first-reads = e; second-reads = f; is = refl }, rw q (merged-read-back first second P R e f (ltb-false 128 (length (P .rules) + length (R .rules)) q)))
+        (merged P R, record { one = P; two = R; first-reads = e; second-reads = f; is = refl }, rw q (merged-read-back first second P R e f (ltb-false RULES_MAX (length (P .rules) + length (R .rules)) q)))
 
 pub append-leaves : (b : Lent) (first second : Text) → appendOutcome b first second .number ≡ 0
     → (P : Policy) × (R : Policy) × (readPolicy first ≡ read P) × (readPolicy second ≡ read R) × (readPolicy (textLeft (appendOutcome b first second)) ≡ read (merged P R))
@@ -77,9 +78,9 @@ append-leaves b first second h = let m = merged-leaves b first second h in (m .1
 
 pub builtin-leaves : (b : Lent) (n : ℕ) → builtinOutcome b n .number ≡ 0
     → (P : Policy) × (readPolicy (builtinText n) ≡ read P) × (readPolicy (textLeft (builtinOutcome b n)) ≡ read P)
-unfolding builtinOutcome builtinAnswer printed
+unfolding builtinOutcome builtinAnswer printedPolicy
 builtin-leaves b n = left-reads (λ P. readPolicy (builtinText n) ≡ read P) b _ (buffers-read _ b _ (go (ltb 3 n)))
   where
-    go : (c : Bool) → Reads (λ P. readPolicy (builtinText n) ≡ read P) (cond c (refused NoSuchBuiltin 0) (withPolicy (readPolicy (builtinText n)) printed))
+    go : (c : Bool) → Reads (λ P. readPolicy (builtinText n) ≡ read P) (cond c (refused NoSuchBuiltin 0) (withPolicy (readPolicy (builtinText n)) printedPolicy))
     go true h = absurd (number-positive NoSuchBuiltin h)
-    go false h = policy-reads (λ P. readPolicy (builtinText n) ≡ read P) (builtinText n) printed (λ P e k. unfold printed in (P, e, policy-read-back (builtinText n) P e)) h
+    go false h = policy-reads (λ P. readPolicy (builtinText n) ≡ read P) (builtinText n) printedPolicy (λ P e k. unfold printedPolicy in (P, e, policy-read-back (builtinText n) P e)) h

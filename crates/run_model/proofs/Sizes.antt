@@ -1,4 +1,4 @@
--- The size that the book carries is at every stage the length of the message as it prints, and a redacted message fits. Assumes nothing.
+-- The size that the progress carries is at every stage the length of the message as it prints, and a redacted message fits. Assumes nothing.
 use mathlib.Core.Path.{_≡_, refl, sym, ap, _∙_, subst}
 use mathlib.Core.Bool.{Bool, true, false, not, cond, _&&_, _||_}
 use mathlib.Core.Option.{Option, none, some}
@@ -15,6 +15,7 @@ use Rattle.er7.specs.declared.separators.Separators.{Separators}
 use Rattle.er7_redact.specs.Action.{Action, isKeep}
 use Rattle.er7_redact.specs.Policy.{Rule}
 use Rattle.refusal.specs.Refusal.{tooLong}
+use Rattle.refusal.specs.Limits.{INPUT_MAX, LEARNT_BYTES_MAX, LEARNT_MAX, TEXT_MAX}
 use Rattle.message_model.specs.Message.{Leaf, leaf, Label, Segment, segment, atField, messageOf, messageFault, touchable, lead, printLeaves, printSegments, printMessage}
 use Rattle.message_model.specs.Value.{NULL, isNull, isEmptyOrNull, value}
 use Rattle.message_model.proofs.Places.{Positive, positive-field}
@@ -24,48 +25,48 @@ use Rattle.message_model.proofs.PrintBack.{message-prints}
 use Rattle.message_model.specs.Chain.{Chain, Chained}
 use Rattle.run_model.specs.Order.{FieldFirst, FieldsFirst}
 use Rattle.policy_model.specs.Policy.{Policy}
-use Rattle.run_model.specs.Redact.{reaches, covers, Depth, Reach, each-leaf, each-node, reach, starts, restOfNode, Fate, stays, vanishes, becomes, after, act, isNil, collapse, fateIn, fate, Row, row, Event, learn, change, changing, learning, took, size, ruleLeaf, ruleEvents, isUnnamed, actOr, unnamedLeaf, changingOr, unnamedEvents, overLeaves, overSegments, leavesEvents, segmentsEvents, Known, Book, running, stopped, knows, knownBytes, booked, bookAll, afterRule, afterRules, rulesEvents, forPosture, forSweep, beforeSweep, eventsBeforeSweep, bookBeforeSweep, done, redactedAs, swept, redactFrom, redact}
+use Rattle.run_model.specs.Redact.{reaches, covers, Depth, Reach, each-leaf, each-node, reach, starts, restOfNode, Effect, stays, vanishes, becomes, after, act, isNil, collapse, effectIn, effect, Row, row, Event, learn, change, changing, learning, textsAt, size, ruleLeaf, ruleEvents, isUnnamed, actOr, unnamedLeaf, changingOr, unnamedEvents, overLeaves, overSegments, leavesEvents, segmentsEvents, Known, Progress, running, stopped, knows, knownBytes, afterEvent, afterEvents, afterRule, afterRules, rulesEvents, forPosture, forSweep, beforeSweep, eventsBeforeSweep, progressBeforeSweep, done, redactedAs, swept, redactFrom, redact}
 use Rattle.run_model.proofs.InStep.{isGone, act-gone}
 use Rattle.run_model.proofs.Chains.{positive-at, covers-next, field-starts, cond-both, rule-live, rule-chained, rule-fields-first, message-fields-first}
 
 -- ---- what events do to a size
 
-abbrev pub effect : List Event → ℕ → ℕ
-effect [] z = z
-effect (learn v a ∷ es) z = effect es z
-effect (change ρ went came ∷ es) z = effect es (z - went + came)
+abbrev pub sizeAfter : List Event → ℕ → ℕ
+sizeAfter [] z = z
+sizeAfter (learn v a ∷ es) z = sizeAfter es z
+sizeAfter (change ρ went came ∷ es) z = sizeAfter es (z - went + came)
 
-pub effect-append : (es fs : List Event) (z : ℕ) → effect (es ++ fs) z ≡ effect fs (effect es z)
-effect-append [] fs z = refl
-effect-append (learn v a ∷ es) fs z = effect-append es fs z
-effect-append (change ρ went came ∷ es) fs z = effect-append es fs _
+pub size-after-append : (es fs : List Event) (z : ℕ) → sizeAfter (es ++ fs) z ≡ sizeAfter fs (sizeAfter es z)
+size-after-append [] fs z = refl
+size-after-append (learn v a ∷ es) fs z = size-after-append es fs z
+size-after-append (change ρ went came ∷ es) fs z = size-after-append es fs _
 
 -- events change a size as a text's length goes from a to b, with x bytes beside the text
 abbrev pub Moves : List Event → ℕ → ℕ → Type 0
-Moves es a b = (x z : ℕ) → z ≡ x + a → effect es z ≡ x + b
+Moves es a b = (x z : ℕ) → z ≡ x + a → sizeAfter es z ≡ x + b
 
 -- of two texts side by side
 pub moves-both : (es fs : List Event) (a b c d : ℕ) → Moves es a b → Moves fs c d → Moves (es ++ fs) (a + c) (b + d)
 moves-both es fs a b c d h k x z e =
-    effect-append es fs z ∙ k (x + b) (effect es z) (h (x + c) z (omega arith) ∙ omega arith) ∙ omega arith
+    size-after-append es fs z ∙ k (x + b) (sizeAfter es z) (h (x + c) z (omega arith) ∙ omega arith) ∙ omega arith
 
 -- of one text, twice
 pub moves-then : (es fs : List Event) (a b c : ℕ) → Moves es a b → Moves fs b c → Moves (es ++ fs) a c
-moves-then es fs a b c h k x z e = effect-append es fs z ∙ k x (effect es z) (h x z e)
+moves-then es fs a b c h k x z e = size-after-append es fs z ∙ k x (sizeAfter es z) (h x z e)
 
 -- of the text alone
-pub moves-alone : (es : List Event) (a b : ℕ) → Moves es a b → effect es a ≡ b
+pub moves-alone : (es : List Event) (a b : ℕ) → Moves es a b → sizeAfter es a ≡ b
 moves-alone es a b h = h 0 a (omega arith) ∙ omega arith
 
-effect-cond : (b : Bool) (es fs : List Event) (z : ℕ) → effect es z ≡ z → effect fs z ≡ z → effect (cond b es fs) z ≡ z
-effect-cond true es fs z h k = h
-effect-cond false es fs z h k = k
+size-after-cond : (b : Bool) (es fs : List Event) (z : ℕ) → sizeAfter es z ≡ z → sizeAfter fs z ≡ z → sizeAfter (cond b es fs) z ≡ z
+size-after-cond true es fs z h k = h
+size-after-cond false es fs z h k = k
 
-effect-learning : (s : Separators) (a : Action) (ts : List Text) (z : ℕ) → effect (learning s a ts) z ≡ z
+size-after-learning : (s : Separators) (a : Action) (ts : List Text) (z : ℕ) → sizeAfter (learning s a ts) z ≡ z
 unfolding learning
-effect-learning s a [] z = refl
-effect-learning s a (t ∷ ts) z =
-    effect-cond (isKeep a || isEmptyOrNull t || ltb (length (lower (value s t))) 3) _ _ z (effect-learning s a ts z) (effect-learning s a ts z)
+size-after-learning s a [] z = refl
+size-after-learning s a (t ∷ ts) z =
+    size-after-cond (isKeep a || isEmptyOrNull t || ltb (length (lower (value s t))) 3) _ _ z (size-after-learning s a ts z) (size-after-learning s a ts z)
 
 -- ---- the length of a leaf
 
@@ -84,11 +85,11 @@ leaf-size s g (leaf p n none) xs = omega arith
 leaf-size s g (leaf p n (some t)) xs = simp length-append (omega arith)
 
 -- a leaf that does not vanish
-fate-moves : (ρ : Row) (n : ℕ) (t : Text) (F : Fate) → isGone F ≡ false → Moves (changing ρ (length t) F) (n + length t) (textSize n (after F t))
+effect-moves : (ρ : Row) (n : ℕ) (t : Text) (F : Effect) → isGone F ≡ false → Moves (changing ρ (length t) F) (n + length t) (textSize n (after F t))
 unfolding changing after
-fate-moves ρ n t stays h x z e = e
-fate-moves ρ n t (becomes w) h x z e = omega arith
-fate-moves ρ n t vanishes h x z e = clash h
+effect-moves ρ n t stays h x z e = e
+effect-moves ρ n t (becomes w) h x z e = omega arith
+effect-moves ρ n t vanishes h x z e = clash h
 
 -- a pass that is settled leaf by leaf
 leaves-move : (s : Separators) (f : Label → Leaf → List Leaf → Leaf) (e : Label → Leaf → List Leaf → List Event) (g : Label)
@@ -102,19 +103,19 @@ leaves-move s f e g h (x ∷ xs) =
 -- ---- a rule
 
 -- what the rule says of a leaf: its change alone counts
-rule-effect : (key : ℕ) (s : Separators) (r : Rule) (g : Label) (p : Place) (n : Bool) (t : Text) (xs : List Leaf) (z : ℕ)
-    → effect (ruleEvents key s r g (leaf p n (some t)) xs) z
-    ≡ effect (changing (row g p (r .action)) (size (took (reach r) p t xs) - 1) (fate key s r g p t xs)) z
+rule-sizeAfter : (key : ℕ) (s : Separators) (r : Rule) (g : Label) (p : Place) (n : Bool) (t : Text) (xs : List Leaf) (z : ℕ)
+    → sizeAfter (ruleEvents key s r g (leaf p n (some t)) xs) z
+    ≡ sizeAfter (changing (row g p (r .action)) (size (textsAt (reach r) p t xs) - 1) (effect key s r g p t xs)) z
 unfolding ruleEvents
-rule-effect key s r g p n t xs z =
-    effect-append (cond (covers r g p) (learning s (r .action) (took (reach r) p t xs)) []) _ z
-    ∙ ap (effect (changing (row g p (r .action)) (size (took (reach r) p t xs) - 1) (fate key s r g p t xs)))
-    (effect-cond (covers r g p) _ _ z (effect-learning s (r .action) (took (reach r) p t xs) z) refl)
+rule-sizeAfter key s r g p n t xs z =
+    size-after-append (cond (covers r g p) (learning s (r .action) (textsAt (reach r) p t xs)) []) _ z
+    ∙ ap (sizeAfter (changing (row g p (r .action)) (size (textsAt (reach r) p t xs) - 1) (effect key s r g p t xs)))
+    (size-after-cond (covers r g p) _ _ z (size-after-learning s (r .action) (textsAt (reach r) p t xs) z) refl)
 
 -- one that acts on each leaf
 module _ (key : ℕ) (s : Separators) (r : Rule) (g : Label) where
-  each-went : reach r ≡ each-leaf → (p : Place) (t : Text) (xs : List Leaf) → size (took (reach r) p t xs) - 1 ≡ length t
-  unfolding took size
+  each-went : reach r ≡ each-leaf → (p : Place) (t : Text) (xs : List Leaf) → size (textsAt (reach r) p t xs) - 1 ≡ length t
+  unfolding textsAt size
   each-went e p t xs = rw e (omega arith)
 
   pub leaf-moves : reach r ≡ each-leaf → (x : Leaf) (xs : List Leaf)
@@ -122,9 +123,9 @@ module _ (key : ℕ) (s : Separators) (r : Rule) (g : Label) where
   unfolding ruleLeaf
   leaf-moves e (leaf p n none) xs x z h = unfold ruleEvents in h
   leaf-moves e (leaf p n (some t)) xs x z h =
-      rule-effect key s r g p n t xs z
+      rule-sizeAfter key s r g p n t xs z
       ∙ rw (each-went e p t xs)
-      (fate-moves (row g p (r .action)) (length (lead s g p)) t (fate key s r g p t xs) (rule-live key s r g e p t xs) x z h)
+      (effect-moves (row g p (r .action)) (length (lead s g p)) t (effect key s r g p t xs) (rule-live key s r g e p t xs) x z h)
 
 -- ---- one that collapses nodes
 
@@ -141,9 +142,9 @@ lead-one s r g p e = rw (and-left (touchable g p) (reaches (r .path) g p) e)
 -- b: it begins a node; c and c′: the leaf before it is covered, and this one
 module _ (es : List Event) (ρ : Row) (n l l′ : ℕ) (t : Text) (ts : List Text) where
   node-step : (b c c′ already : Bool) → (b ≡ false → c′ ≡ c) → (c′ ≡ true → n ≡ 1) → (c′ ≡ true → size ts ≤ l) → (already ≡ true → size ts ≡ 0)
-      → ((x z : ℕ) → z + cond c′ (size ts) 0 ≡ x + l → effect es z ≡ x + l′) → (x z : ℕ)
+      → ((x z : ℕ) → z + cond c′ (size ts) 0 ≡ x + l → sizeAfter es z ≡ x + l′) → (x z : ℕ)
       → z + cond c (size (cond b [] (t ∷ ts))) 0 ≡ x + (n + length t + l)
-      → effect es (effect (changing ρ (size (cond b (t ∷ ts) []) - 1) (cond c′ (collapse b already) stays)) z)
+      → sizeAfter es (sizeAfter (changing ρ (size (cond b (t ∷ ts) []) - 1) (cond c′ (collapse b already) stays)) z)
       ≡ x + (textSize n (after (cond c′ (collapse b already) stays) t) + l′)
   unfolding size collapse changing after NULL bytes
   node-step true c true true v one le nil ih x z h =
@@ -176,31 +177,31 @@ module _ (s : Separators) (r : Rule) (g : Label) (d : Depth) (e : reach r ≡ ea
       (λ i. lead-one s r g q (on i)) (λ i. rest-le xs q (positive-at p q h (c .0)) (c .1) (on i)))
 
 module _ (key : ℕ) (s : Separators) (r : Rule) (g : Label) (d : Depth) (e : reach r ≡ each-node d) where
-  abbrev nodeFate : Place → Text → List Leaf → Fate
-  nodeFate p t xs = cond (covers r g p) (collapse (starts d p) (isNull t && isNil (restOfNode d xs))) stays
+  abbrev nodeEffect : Place → Text → List Leaf → Effect
+  nodeEffect p t xs = cond (covers r g p) (collapse (starts d p) (isNull t && isNil (restOfNode d xs))) stays
 
-  node-fate : (p : Place) (t : Text) (xs : List Leaf) → fate key s r g p t xs ≡ nodeFate p t xs
-  unfolding fate fateIn
-  node-fate p t xs = rw e
+  node-effect : (p : Place) (t : Text) (xs : List Leaf) → effect key s r g p t xs ≡ nodeEffect p t xs
+  unfolding effect effectIn
+  node-effect p t xs = rw e
 
-  node-took : (p : Place) (t : Text) (xs : List Leaf) → took (reach r) p t xs ≡ cond (starts d p) (t ∷ restOfNode d xs) []
-  unfolding took
-  node-took p t xs = rw e
+  node-own-texts : (p : Place) (t : Text) (xs : List Leaf) → textsAt (reach r) p t xs ≡ cond (starts d p) (t ∷ restOfNode d xs) []
+  unfolding textsAt
+  node-own-texts p t xs = rw e
 
   -- the first leaf's change, then what is said of the others
   node-events : (q : Place) (n : Bool) (t : Text) (xs : List Leaf) (z : ℕ)
-      → effect (leavesEvents (ruleEvents key s r) g (leaf q n (some t) ∷ xs)) z
-      ≡ effect (leavesEvents (ruleEvents key s r) g xs)
-      (effect (changing (row g q (r .action)) (size (cond (starts d q) (t ∷ restOfNode d xs) []) - 1) (nodeFate q t xs)) z)
+      → sizeAfter (leavesEvents (ruleEvents key s r) g (leaf q n (some t) ∷ xs)) z
+      ≡ sizeAfter (leavesEvents (ruleEvents key s r) g xs)
+      (sizeAfter (changing (row g q (r .action)) (size (cond (starts d q) (t ∷ restOfNode d xs) []) - 1) (nodeEffect q t xs)) z)
   node-events q n t xs z =
-      effect-append (ruleEvents key s r g (leaf q n (some t)) xs) (leavesEvents (ruleEvents key s r) g xs) z
-      ∙ ap (effect (leavesEvents (ruleEvents key s r) g xs)) (rule-effect key s r g q n t xs z ∙ rw (node-fate q t xs, node-took q t xs))
+      size-after-append (ruleEvents key s r g (leaf q n (some t)) xs) (leavesEvents (ruleEvents key s r) g xs) z
+      ∙ ap (sizeAfter (leavesEvents (ruleEvents key s r) g xs)) (rule-sizeAfter key s r g q n t xs z ∙ rw (node-effect q t xs, node-own-texts q t xs))
 
   node-after : (q : Place) (n : Bool) (t : Text) (xs : List Leaf)
       → length (printLeaves s g (overLeaves (ruleLeaf key s r) g (leaf q n (some t) ∷ xs)))
-      ≡ textSize (length (lead s g q)) (after (nodeFate q t xs) t) + length (printLeaves s g (overLeaves (ruleLeaf key s r) g xs))
+      ≡ textSize (length (lead s g q)) (after (nodeEffect q t xs) t) + length (printLeaves s g (overLeaves (ruleLeaf key s r) g xs))
   unfolding ruleLeaf
-  node-after q n t xs = leaf-size s g _ (overLeaves (ruleLeaf key s r) g xs) ∙ rw (node-fate q t xs)
+  node-after q n t xs = leaf-size s g _ (overLeaves (ruleLeaf key s r) g xs) ∙ rw (node-effect q t xs)
 
   node-end : (b : Bool) (x z : ℕ) → z + cond b (size []) 0 ≡ x + 0 → z ≡ x + 0
   unfolding size
@@ -209,7 +210,7 @@ module _ (key : ℕ) (s : Separators) (r : Rule) (g : Label) (d : Depth) (e : re
   -- the bytes of the node of p that are still to come have gone from z already
   pub node-size : (xs : List Leaf) (p : Place) → Positive p → Chain p xs → (x z : ℕ)
       → z + cond (covers r g p) (size (restOfNode d xs)) 0 ≡ x + length (printLeaves s g xs)
-      → effect (leavesEvents (ruleEvents key s r) g xs) z ≡ x + length (printLeaves s g (overLeaves (ruleLeaf key s r) g xs))
+      → sizeAfter (leavesEvents (ruleEvents key s r) g xs) z ≡ x + length (printLeaves s g (overLeaves (ruleLeaf key s r) g xs))
   unfolding restOfNode ruleLeaf ruleEvents printLeaves
   node-size [] p h c x z k = node-end (covers r g p) x z k
   node-size (leaf q n none ∷ xs) p h c x z k = node-size xs p h c x z k
@@ -235,7 +236,7 @@ pub rule-size : (key : ℕ) (s : Separators) (r : Rule) (g : Label) (xs : List L
     → Moves (leavesEvents (ruleEvents key s r) g xs) (length (printLeaves s g xs)) (length (printLeaves s g (overLeaves (ruleLeaf key s r) g xs)))
 rule-size key s r g xs p h c f x z q = go (reach r) refl
   where
-    go : (d : Reach) → reach r ≡ d → effect (leavesEvents (ruleEvents key s r) g xs) z ≡ x + length (printLeaves s g (overLeaves (ruleLeaf key s r) g xs))
+    go : (d : Reach) → reach r ≡ d → sizeAfter (leavesEvents (ruleEvents key s r) g xs) z ≡ x + length (printLeaves s g (overLeaves (ruleLeaf key s r) g xs))
     go each-leaf e = leaves-move s (ruleLeaf key s r) (ruleEvents key s r) g (leaf-moves key s r g e) xs x z q
     go (each-node d) e =
         let o : size (restOfNode d xs) ≡ 0 = ap size (rest-none d xs f) ∙ unfold size in refl in
@@ -248,7 +249,7 @@ module _ (key : ℕ) (s : Separators) (f : Text → Option Action) (g : Label) w
       → Moves (cond b (changingOr key s o g p t) []) (n + length t) (textSize n (after (cond b (actOr key s o t) stays) t))
   unfolding changingOr actOr
   unnamed-changing true none n p t = unfold after in (λ x z h. h)
-  unnamed-changing true (some a) n p t = fate-moves (row g p a) n t (act key s a t) (act-gone key s a t)
+  unnamed-changing true (some a) n p t = effect-moves (row g p a) n t (act key s a t) (act-gone key s a t)
   unnamed-changing false o n p t = unfold after in (λ x z h. h)
 
   pub unnamed-moves : (x : Leaf) (xs : List Leaf) → Moves (unnamedEvents key s f g x xs) (leafSize s g x) (leafSize s g (unnamedLeaf key s f g x xs))
@@ -323,62 +324,62 @@ module _ (key : ℕ) (s : Separators) (cr : Bool) where
       moves-then (rulesEvents key s (P .rules) ss) (segmentsEvents (unnamedEvents key s (forPosture (P .posture))) (afterRules key s (P .rules) ss))
       _ _ _ (rules-sizes (P .rules) ss c f) (unnamed-sizes (forPosture (P .posture)) (afterRules key s (P .rules) ss))
 
--- ---- the book
+-- ---- the progress
 
--- a book with the size b, which is in the limit if the size a, with which it began, was
-abbrev pub Sized : ℕ → ℕ → Book → Type 0
-Sized a b (running ks ρs z) = (z ≡ b) × (a ≤ 49152 → z ≤ 49152)
+-- a progress with the size b, which is in the limit if the size a, with which it began, was
+abbrev pub Sized : ℕ → ℕ → Progress → Type 0
+Sized a b (running ks ρs z) = (z ≡ b) × (a ≤ TEXT_MAX → z ≤ TEXT_MAX)
 Sized a b (stopped e) = Unit {0}
 
-booked-size : (sweep : Bool) (B : Book) (e : Event) (a b : ℕ) → Sized a b B → Sized a (effect (e ∷ []) b) (booked sweep B e)
-unfolding booked
-booked-size sweep (stopped n) e a b h = tt
-booked-size sweep (running ks ρs z) (learn v x) a b h =
+event-size : (sweep : Bool) (B : Progress) (e : Event) (a b : ℕ) → Sized a b B → Sized a (sizeAfter (e ∷ []) b) (afterEvent sweep B e)
+unfolding afterEvent
+event-size sweep (stopped n) e a b h = tt
+event-size sweep (running ks ρs z) (learn v x) a b h =
     by-cond (Sized a b) (not sweep || knows v ks) _ _ (λ _. h) (λ _.
-    by-cond (Sized a b) (leb 512 (length ks) || ltb 16384 (knownBytes ks + length v)) _ _ (λ _. tt) (λ _. h))
-booked-size sweep (running ks ρs z) (change ρ went came) a b h =
-    by-cond (Sized a (b - went + came)) (ltb 49152 (z - went + came)) _ _ (λ _. tt) (λ e. (rw (h .0), λ _. ltb-false 49152 _ e))
+    by-cond (Sized a b) (leb LEARNT_MAX (length ks) || ltb LEARNT_BYTES_MAX (knownBytes ks + length v)) _ _ (λ _. tt) (λ _. h))
+event-size sweep (running ks ρs z) (change ρ went came) a b h =
+    by-cond (Sized a (b - went + came)) (ltb TEXT_MAX (z - went + came)) _ _ (λ _. tt) (λ e. (rw (h .0), λ _. ltb-false TEXT_MAX _ e))
 
-pub books-size : (sweep : Bool) (es : List Event) (B : Book) (a b : ℕ) → Sized a b B → Sized a (effect es b) (bookAll sweep es B)
-unfolding bookAll
-books-size sweep [] B a b h = h
-books-size sweep (e ∷ es) B a b h =
-    rw (effect-append (e ∷ []) es b) (books-size sweep es (booked sweep B e) a (effect (e ∷ []) b) (booked-size sweep B e a b h))
+pub recorded-size : (sweep : Bool) (es : List Event) (B : Progress) (a b : ℕ) → Sized a b B → Sized a (sizeAfter es b) (afterEvents sweep es B)
+unfolding afterEvents
+recorded-size sweep [] B a b h = h
+recorded-size sweep (e ∷ es) B a b h =
+    rw (size-after-append (e ∷ []) es b) (recorded-size sweep es (afterEvent sweep B e) a (sizeAfter (e ∷ []) b) (event-size sweep B e a b h))
 
-pub book-size : (sweep : Bool) (es : List Event) (ks ks′ : List Known) (ρs ρs′ : List Row) (z z′ : ℕ)
-    → bookAll sweep es (running ks ρs z) ≡ running ks′ ρs′ z′ → (z′ ≡ effect es z) × (z ≤ 49152 → z′ ≤ 49152)
-book-size sweep es ks ks′ ρs ρs′ z z′ e = subst (Sized z (effect es z)) e (books-size sweep es (running ks ρs z) z z (refl, λ h. h))
+pub progress-size : (sweep : Bool) (es : List Event) (ks ks′ : List Known) (ρs ρs′ : List Row) (z z′ : ℕ)
+    → afterEvents sweep es (running ks ρs z) ≡ running ks′ ρs′ z′ → (z′ ≡ sizeAfter es z) × (z ≤ TEXT_MAX → z′ ≤ TEXT_MAX)
+progress-size sweep es ks ks′ ρs ρs′ z z′ e = subst (Sized z (sizeAfter es z)) e (recorded-size sweep es (running ks ρs z) z z (refl, λ h. h))
 
 -- ---- the text that a run gives, with x bytes beside it
 
 module _ (key : ℕ) (P : Policy) (s : Separators) (cr : Bool) (ss : List Segment) (c : Chained ss) (f : FieldsFirst ss)
     (x z : ℕ) (q : z ≡ x + length (printSegments s cr ss)) where
-  pub size-before-sweep : Sized z (x + length (printSegments s cr (beforeSweep key s P ss))) (bookBeforeSweep z key s P ss)
-  unfolding bookBeforeSweep
+  pub size-before-sweep : Sized z (x + length (printSegments s cr (beforeSweep key s P ss))) (progressBeforeSweep z key s P ss)
+  unfolding progressBeforeSweep
   size-before-sweep =
       rw (before-sweep-size key s cr P ss c f x z q) at
-      (books-size (P .sweep) (eventsBeforeSweep key s P ss) (running [] [] z) z z (refl, λ h. h))
+      (recorded-size (P .sweep) (eventsBeforeSweep key s P ss) (running [] [] z) z z (refl, λ h. h))
 
-  fits-limit : z ≤ 49152 → (B : Book) (zs : List Segment) (u : Text) (ρs : List Row) → Sized z (x + length (printSegments s cr zs)) B
-      → redactedAs s cr B zs ≡ done u ρs → x + length u ≤ 49152
+  fits-limit : z ≤ TEXT_MAX → (B : Progress) (zs : List Segment) (u : Text) (ρs : List Row) → Sized z (x + length (printSegments s cr zs)) B
+      → redactedAs s cr B zs ≡ done u ρs → x + length u ≤ TEXT_MAX
   unfolding redactedAs
   fits-limit h (running ks σs y) zs u ρs k e = let q : printSegments s cr zs ≡ u = cc e in rw (← q) (rw (k .0) at (k .1 h))
   fits-limit h (stopped n) zs u ρs k e = let q : true ≡ false = cc in clash q
 
-  pub run-fits : z ≤ 49152 → (ks : List Known) (u : Text) (ρs : List Row)
-      → swept key s P cr ks (bookBeforeSweep z key s P ss) (beforeSweep key s P ss) ≡ done u ρs → x + length u ≤ 49152
+  pub run-fits : z ≤ TEXT_MAX → (ks : List Known) (u : Text) (ρs : List Row)
+      → swept key s P cr ks (progressBeforeSweep z key s P ss) (beforeSweep key s P ss) ≡ done u ρs → x + length u ≤ TEXT_MAX
   unfolding swept
   run-fits h ks u ρs e =
       let es = segmentsEvents (unnamedEvents key s (forSweep s ks)) (beforeSweep key s P ss) in
-      fits-limit h (bookAll (P .sweep) es (bookBeforeSweep z key s P ss)) _ u ρs
+      fits-limit h (afterEvents (P .sweep) es (progressBeforeSweep z key s P ss)) _ u ρs
       (rw (unnamed-sizes key s cr (forSweep s ks) (beforeSweep key s P ss) x _ refl) at
-      (books-size (P .sweep) es (bookBeforeSweep z key s P ss) z _ size-before-sweep)) e
+      (recorded-size (P .sweep) es (progressBeforeSweep z key s P ss) z _ size-before-sweep)) e
 
-message-size : (t : Text) → messageFault t ≡ none → length (printMessage (messageOf t)) ≤ 49152
+message-size : (t : Text) → messageFault t ≡ none → length (printMessage (messageOf t)) ≤ TEXT_MAX
 unfolding tooLong
-message-size t e = rw (message-prints t e) (let h = ltb-false 32768 (length t) (faultless t e .not-too-long) in omega arith)
+message-size t e = rw (message-prints t e) (let h = ltb-false INPUT_MAX (length t) (faultless t e .not-too-long) in omega arith)
 
-pub redacted-fits : (key : ℕ) (P : Policy) (t : Text) → messageFault t ≡ none → (u : Text) (ρs : List Row) → redact key P (messageOf t) ≡ done u ρs → length u ≤ 49152
+pub redacted-fits : (key : ℕ) (P : Policy) (t : Text) → messageFault t ≡ none → (u : Text) (ρs : List Row) → redact key P (messageOf t) ≡ done u ρs → length u ≤ TEXT_MAX
 unfolding redact redactFrom printMessage
 redacted-fits key P t e u ρs h =
     omega (arith, run-fits key P _ _ _ (message-chains t) (message-fields-first t e) 0 _ (omega arith) (message-size t e) _ u ρs h)

@@ -19,7 +19,7 @@ use Rattle.run_model.specs.Counts.{postureTurn, sweepTurn, countsOf, tex
 use Rattle.run_model.specs.Demand.{textAt, SettledAt, Learnt, NotInSegments, AlikeLeaves, AlikeSegments, Alike, Settled, Unswept}
 use Rattle.run_model.proofs.InStep.{SameShape, SameShapes, live, rows-append, Good, in-step, counts-in-step}
 use Rattle.run_model.proofs.Learning.{Learns, learns-append, learns-of, learns-segs, still-segs}
-use Rattle.run_model.proofs.Booked.{known-all-learnt, run-is}
+use Rattle.run_model.proofs.Progress.{known-all-learnt, run-is}
 use Rattle.run_model.proofs.Units.{done-is}
 
 abbrev pub Accepted : Redacted → Type 0

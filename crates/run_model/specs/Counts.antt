@@ -1,7 +1,7 @@
 -- Rows counted for each policy line (Paper 9): "one count for every rule, one for the posture and one for the sweep, each of the rows it wrote".
 -- Assumes nothing: these are definitions.
 use mathlib.Core.Path.{_≡_}
-use mathlib.Core.Bool.{true, false, cond}
+use mathlib.Core.Bool.{true, false}
 use mathlib.Core.List.{List, [], _∷_, _++_}
 use Prim.Native.Nat.{ℕ, _+_}
 use lib.ListN.{length}

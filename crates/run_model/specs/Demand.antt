@@ -7,7 +7,7 @@ use mathlib.Core.Option.{Option, none, some}
 use Prim.Native.Nat.{ℕ, zero, suc}
 use lib.Dec.{T}
 use lib.ListN.{take}
-use Rattle.text.specs.Text.{Text, lower}
+use Rattle.text.specs.Text.{Text}
 use Rattle.text.specs.Characters.{lowerText}
 use Rattle.er7.specs.declared.message.Place.{Place}
 use Rattle.er7.specs.declared.separators.Separators.{Separators}
@@ -16,7 +16,7 @@ use Rattle.er7_redact.specs.Policy.{Rule}
 use Rattle.message_model.specs.Message.{Leaf, leaf, Label, Segment, segment, Message, messageOf}
 use Rattle.message_model.specs.Value.{value, isWholeWord}
 use Rattle.policy_model.specs.Policy.{Policy, read, readPolicy}
-use Rattle.run_model.specs.Redact.{covers, reach, isNode, fate, moved, isUnnamed, learn, afterRule, rulesEvents, beforeSweep}
+use Rattle.run_model.specs.Redact.{covers, reach, isNode, effect, moved, isUnnamed, learn, afterRule, rulesEvents, beforeSweep}
 use Rattle.run_model.specs.Entries.{LentReport, RedactOutcome, redactOutcome}
 
 -- ---- positions: a segment's number and a leaf's number in it, from 0. A leaf that vanished keeps its number
@@ -55,7 +55,7 @@ actsAt r ss i j = at false (acts r) ss i j
 -- "in a collapse every leaf of the node vanishes", its first included
 abbrev pub collapsed : ℕ → Separators → Rule → Label → Leaf → List Leaf → Bool
 collapsed key s r g (leaf p n none) xs = false
-collapsed key s r g (leaf p n (some t)) xs = isNode (reach r) && moved (fate key s r g p t xs)
+collapsed key s r g (leaf p n (some t)) xs = isNode (reach r) && moved (effect key s r g p t xs)
 
 -- "An action changed a leaf if its text is another after that rule's turn than before, or if it vanished"
 abbrev pub ChangedAt : ℕ → Separators → Rule → List Segment → ℕ → ℕ → Type 0

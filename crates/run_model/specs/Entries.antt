@@ -5,12 +5,14 @@ use mathlib.Core.List.{List, [], _++_}
 use mathlib.Core.Option.{Option, none, some}
 use Prim.Native.Nat.{ℕ, _+_, _-_}
 use lib.ListN.{length, take, replicate}
-use lib.Dec.{eqb, ltb}
-use Rattle.text.specs.Text.{Text, all}
+use lib.Dec.{ltb}
+use Rattle.text.specs.Text.{Text}
 use Rattle.er7_redact.specs.Action as A
 use Rattle.refusal.specs.declared.Refusal.{Refusal}
 use Rattle.refusal.specs.declared.Refusal.the-variants.{ShortBuffer, TooLong, ForeignByte, TooMany, ReportTooLong, Withheld, NoSuchBuiltin}
-use Rattle.refusal.specs.Refusal.{number, tooLong, isPlain}
+use Rattle.refusal.specs.Refusal.{number, tooLong, noForeign}
+use Rattle.refusal.specs.declared.input.Input.the-variants as Inputs
+use Rattle.refusal.specs.Limits.{RULES_MAX, TEXT_MAX}
 use Rattle.message_model.specs.Message.{messageOf, messageFault}
 use Rattle.policy_model.specs.Policy as Q
 use Rattle.policy_model.specs.Policy.{Policy, PolicyRead, read, readPolicy, Unrecognised, pass, refuse, apply, merged, printPolicy}
@@ -108,7 +110,7 @@ textLeft o = take (o .textLength) (o .output)
 
 -- "output or scratch below 49,152 bytes"
 unfoldable pub isShort : Lent → Bool
-isShort b = ltb (b .output) 49152 || ltb (b .scratch) 49152
+isShort b = ltb (b .output) TEXT_MAX || ltb (b .scratch) TEXT_MAX
 
 unfoldable pub withBuffers : {X : Type 0} → Lent → Answer X → Answer X
 withBuffers b a = cond (isShort b) (refused ShortBuffer 0) a
@@ -136,15 +138,15 @@ redactAnswer b message policy key =
 
 -- ---- print, append and built-in: "write the printed form of the policy read, merged or named"
 
-unfoldable pub printed : Policy → Answer Text
-printed P = done (printPolicy P)
+unfoldable pub printedPolicy : Policy → Answer Text
+printedPolicy P = done (printPolicy P)
 
 unfoldable pub printAnswer : Lent → Text → Answer Text
-printAnswer b policy = withBuffers b (withPolicy (readPolicy policy) printed)
+printAnswer b policy = withBuffers b (withPolicy (readPolicy policy) printedPolicy)
 
 -- "each policy whole ..; the merged rule count"
 unfoldable pub mergedAnswer : Policy → Policy → Answer Text
-mergedAnswer P Q = cond (ltb 128 (length (P .rules) + length (Q .rules))) (refused TooMany 0) (printed (merged P Q))
+mergedAnswer P Q = cond (ltb RULES_MAX (length (P .rules) + length (Q .rules))) (refused TooMany 0) (printedPolicy (merged P Q))
 
 unfoldable pub appendAnswer : Lent → Text → Text → Answer Text
 appendAnswer b first second =
@@ -152,16 +154,12 @@ appendAnswer b first second =
 
 -- "number above 3"
 unfoldable pub builtinAnswer : Lent → ℕ → Answer Text
-builtinAnswer b n = withBuffers b (cond (ltb 3 n) (refused NoSuchBuiltin 0) (withPolicy (readPolicy (builtinText n)) printed))
+builtinAnswer b n = withBuffers b (cond (ltb 3 n) (refused NoSuchBuiltin 0) (withPolicy (readPolicy (builtinText n)) printedPolicy))
 
 -- ---- payload: "the payload (2, 3, 13)"
 
--- "CR and LF in a payload"
-unfoldable pub isPayloadByte : ℕ → Bool
-isPayloadByte x = isPlain x || eqb x 0x0d || eqb x 0x0a
-
 unfoldable pub payloadFault : Text → Option Refusal
-payloadFault t = cond (tooLong t) (some TooLong) (cond (not (all isPayloadByte t)) (some ForeignByte) none)
+payloadFault t = cond (tooLong t) (some TooLong) (cond (not (noForeign Inputs.Payload t)) (some ForeignByte) none)
 
 -- the text that an action writes, or the payload where it writes none
 unfoldable pub writtenOr : Text → Option Text → Text

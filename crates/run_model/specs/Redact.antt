@@ -1,12 +1,12 @@
--- redact.rs: what a policy does to a message. A pass visits every leaf once: what becomes of the leaf is its `Fate`, and what the
--- pass has to say of it is a list of events, which are booked in order. Assumes nothing: these are definitions.
+-- redact.rs: what a policy does to a message. A pass visits every leaf once: what becomes of the leaf is its `Effect`, and what the
+-- pass has to say of it is a list of events, which are recorded in order. Assumes nothing: these are definitions.
 use mathlib.Core.Bool.{Bool, true, false, not, cond, _&&_, _||_}
 use mathlib.Core.List.{List, [], _∷_, _++_}
 use mathlib.Core.Option.{Option, none, some}
 use Prim.Native.Nat.{ℕ, _+_, _-_}
 use lib.ListN.{length}
 use lib.Dec.{eqb, leb, ltb}
-use Rattle.text.specs.Text.{Text, lower, same}
+use Rattle.text.specs.Text.{Text, same}
 use Rattle.text.specs.Characters.{charCount, lowerText}
 use Rattle.er7.specs.Path.{Path, printPath}
 use Rattle.er7.specs.declared.message.Place.{Place}
@@ -15,6 +15,7 @@ use Rattle.er7_redact.specs.Action.{Action, isKeep, isNullAction, printAction, 
 use Rattle.er7_redact.specs.Policy.{Rule, Posture, accept, reject}
 use Rattle.refusal.specs.declared.Refusal.{Refusal}
 use Rattle.refusal.specs.declared.Refusal.the-variants.{TooMuchLearnt, MessageTooLong}
+use Rattle.refusal.specs.Limits.{LEARNT_BYTES_MAX, LEARNT_MAX, TEXT_MAX}
 use Rattle.message_model.specs.Message.{Leaf, leaf, Label, Segment, segment, Message, touchable, printSegments, printMessage}
 use Rattle.message_model.specs.Value.{NULL, isNull, isEmptyOrNull, value, encode, isWholeWord}
 use Rattle.policy_model.specs.Policy.{Policy}
@@ -67,27 +68,27 @@ restOfNode d (leaf p n (some t) ∷ xs) = let more = restOfNode d xs in cond (st
 
 -- ---- what becomes of a leaf
 
-pub data Fate : Type 0 where
-  stays vanishes : Fate
-  becomes : Text → Fate
+pub data Effect : Type 0 where
+  stays vanishes : Effect
+  becomes : Text → Effect
 
-unfoldable pub after : Fate → Text → Option Text
+unfoldable pub after : Effect → Text → Option Text
 after stays t = some t
 after (becomes w) t = some w
 after vanishes t = none
 
-unfoldable pub moved : Fate → Bool
+unfoldable pub moved : Effect → Bool
 moved stays = false
 moved (becomes w) = true
 moved vanishes = true
 
 -- "An equal replacement changes nothing"
-unfoldable pub replaced : Separators → Option Text → Text → Fate
+unfoldable pub replaced : Separators → Option Text → Text → Effect
 replaced s none v = stays
 replaced s (some w) v = cond (same w v) stays (becomes (encode s w))
 
 -- an action on one leaf: "Empty and null leaves are skipped, except that null writes an empty one"
-unfoldable pub act : ℕ → Separators → Action → Text → Fate
+unfoldable pub act : ℕ → Separators → Action → Text → Effect
 act key s a t =
     cond (isNullAction a) (cond (isNull t) stays (becomes NULL))
     (cond (isEmptyOrNull t) stays (replaced s (apply key a (value s t)) (value s t)))
@@ -97,21 +98,22 @@ isNil [] = true
 isNil (x ∷ xs) = false
 
 -- "by one null leaf `""`"; "a node that is already that is left". Of a node the first leaf stays and the others vanish
-unfoldable pub collapse : Bool → Bool → Fate
+unfoldable pub collapse : Bool → Bool → Effect
 collapse true true = stays
 collapse true false = becomes NULL
 collapse false already = vanishes
 
 -- a leaf at p that a rule covers, with the text t, before the leaves xs
-unfoldable pub fateIn : ℕ → Separators → Reach → Action → Place → Text → List Leaf → Fate
-fateIn key s each-leaf a p t xs = act key s a t
-fateIn key s (each-node d) a p t xs = collapse (starts d p) (isNull t && isNil (restOfNode d xs))
+unfoldable pub effectIn : ℕ → Separators → Reach → Action → Place → Text → List Leaf → Effect
+effectIn key s each-leaf a p t xs = act key s a t
+effectIn key s (each-node d) a p t xs = collapse (starts d p) (isNull t && isNil (restOfNode d xs))
 
-unfoldable pub fate : ℕ → Separators → Rule → Label → Place → Text → List Leaf → Fate
-fate key s r g p t xs = cond (covers r g p) (fateIn key s (reach r) (r .action) p t xs) stays
+unfoldable pub effect : ℕ → Separators → Rule → Label → Place → Text → List Leaf → Effect
+effect key s r g p t xs = cond (covers r g p) (effectIn key s (reach r) (r .action) p t xs) stays
 
 -- ---- what is said of a leaf
 
+-- the term "row": a change, by where it was made and with which action
 pub record Row : Type 0 where
   pub path : Path
   pub action : Action
@@ -137,12 +139,12 @@ pub data Event : Type 0 where
   change : Row → ℕ → ℕ → Event
 
 -- a leaf that gets a text has a row; one that vanishes has none, since the node's first leaf has it ("gives one row")
-unfoldable pub changing : Row → ℕ → Fate → List Event
+unfoldable pub changing : Row → ℕ → Effect → List Event
 changing ρ went stays = []
 changing ρ went (becomes w) = change ρ went (length w) ∷ []
 changing ρ went vanishes = []
 
--- "Learnt: not under keep, not empty, not null, lower-cased, at least 3 characters"
+-- the term "learnt". "Learnt: not under keep, not empty, not null, lower-cased, at least 3 characters"
 unfoldable pub learning : Separators → Action → List Text → List Event
 learning s a [] = []
 learning s a (t ∷ ts) =
@@ -151,33 +153,33 @@ learning s a (t ∷ ts) =
     cond (isKeep a || isEmptyOrNull t || ltb (charCount v) 3) more (learn v a ∷ more)
 
 -- the texts that a leaf answers for: its own; the whole node's, if it is a node's first; none, if it is another of a node
-unfoldable pub took : Reach → Place → Text → List Leaf → List Text
-took each-leaf p t xs = t ∷ []
-took (each-node d) p t xs = cond (starts d p) (t ∷ restOfNode d xs) []
+unfoldable pub textsAt : Reach → Place → Text → List Leaf → List Text
+textsAt each-leaf p t xs = t ∷ []
+textsAt (each-node d) p t xs = cond (starts d p) (t ∷ restOfNode d xs) []
 
 -- the bytes of texts, each with a delimiter
 unfoldable pub size : List Text → ℕ
 size [] = 0
 size (t ∷ ts) = 1 + length t + size ts
 
--- ---- the rules' passes: "Every other leaf reached is named, keep included, and learnt before the action"; a collapse "names nothing"
+-- ---- the rules' passes, and the term "named": "Every other leaf reached is named, keep included, and learnt before the action"; a collapse "names nothing"
 
 unfoldable pub ruleLeaf : ℕ → Separators → Rule → Label → Leaf → List Leaf → Leaf
 ruleLeaf key s r g (leaf p n none) xs = leaf p n none
-ruleLeaf key s r g (leaf p n (some t)) xs = leaf p (n || covers r g p && not (isNode (reach r))) (after (fate key s r g p t xs) t)
+ruleLeaf key s r g (leaf p n (some t)) xs = leaf p (n || covers r g p && not (isNode (reach r))) (after (effect key s r g p t xs) t)
 
 unfoldable pub ruleEvents : ℕ → Separators → Rule → Label → Leaf → List Leaf → List Event
 ruleEvents key s r g (leaf p n none) xs = []
 ruleEvents key s r g (leaf p n (some t)) xs =
-    cond (covers r g p) (learning s (r .action) (took (reach r) p t xs)) []
-    ++ changing (row g p (r .action)) (size (took (reach r) p t xs) - 1) (fate key s r g p t xs)
+    cond (covers r g p) (learning s (r .action) (textsAt (reach r) p t xs)) []
+    ++ changing (row g p (r .action)) (size (textsAt (reach r) p t xs) - 1) (effect key s r g p t xs)
 
 -- ---- the passes over unnamed leaves, with an action for each text or none
 
 unfoldable pub isUnnamed : Label → Place → Bool → Bool
 isUnnamed g p n = touchable g p && not n
 
-unfoldable pub actOr : ℕ → Separators → Option Action → Text → Fate
+unfoldable pub actOr : ℕ → Separators → Option Action → Text → Effect
 actOr key s none t = stays
 actOr key s (some a) t = act key s a t
 
@@ -211,15 +213,16 @@ abbrev pub segmentsEvents : (Label → Leaf → List Leaf → List Event) → Li
 segmentsEvents f [] = []
 segmentsEvents f (segment g xs ∷ ss) = leavesEvents f g xs ++ segmentsEvents f ss
 
--- ---- the book: what is learnt, the rows, and the message's size
+-- ---- the progress: what is learnt, the rows, and the message's size
 
+-- a learnt value, with the action that it was learnt under
 pub record Known : Type 0 where
   pub value : Text
   pub action : Action
 
-pub data Book : Type 0 where
-  running : List Known → List Row → ℕ → Book
-  stopped : Refusal → Book
+pub data Progress : Type 0 where
+  running : List Known → List Row → ℕ → Progress
+  stopped : Refusal → Progress
 
 unfoldable pub knows : Text → List Known → Bool
 knows v [] = false
@@ -230,21 +233,21 @@ knownBytes [] = 0
 knownBytes (k ∷ ks) = length (k .value) + knownBytes ks
 
 -- "first action wins"; "sweep on, and a 513th value or over 16,384 bytes of them"; "a change leaves the message over 49,152 bytes"
-unfoldable pub booked : Bool → Book → Event → Book
-booked sweep (stopped e) x = stopped e
-booked sweep (running ks ρs z) (learn v a) =
+unfoldable pub afterEvent : Bool → Progress → Event → Progress
+afterEvent sweep (stopped e) x = stopped e
+afterEvent sweep (running ks ρs z) (learn v a) =
     cond (not sweep || knows v ks) (running ks ρs z)
-    (cond (leb 512 (length ks) || ltb 16384 (knownBytes ks + length v)) (stopped TooMuchLearnt)
+    (cond (leb LEARNT_MAX (length ks) || ltb LEARNT_BYTES_MAX (knownBytes ks + length v)) (stopped TooMuchLearnt)
     (running (ks ++ (record { value = v; action = a } ∷ [])) ρs z))
-booked sweep (running ks ρs z) (change ρ went came) =
-    cond (ltb 49152 (z - went + came)) (stopped MessageTooLong) (running ks (ρs ++ (ρ ∷ [])) (z - went + came))
+afterEvent sweep (running ks ρs z) (change ρ went came) =
+    cond (ltb TEXT_MAX (z - went + came)) (stopped MessageTooLong) (running ks (ρs ++ (ρ ∷ [])) (z - went + came))
 
 -- "Then 10 and 11 as they arise"
-unfoldable pub bookAll : Bool → List Event → Book → Book
-bookAll sweep [] b = b
-bookAll sweep (e ∷ es) b = bookAll sweep es (booked sweep b e)
+unfoldable pub afterEvents : Bool → List Event → Progress → Progress
+afterEvents sweep [] b = b
+afterEvents sweep (e ∷ es) b = afterEvents sweep es (afterEvent sweep b e)
 
-unfoldable pub knownIn : Book → List Known
+unfoldable pub knownIn : Progress → List Known
 knownIn (running ks ρs z) = ks
 knownIn (stopped e) = []
 
@@ -273,7 +276,7 @@ firstFound (k ∷ ks) v = cond (isWholeWord (k .value) v) (some (k .action)) (fi
 unfoldable pub forSweep : Separators → List Known → Text → Option Action
 forSweep s ks t = cond (isEmptyOrNull t) none (firstFound ks (lowerText (value s t)))
 
--- the segments when the sweep starts, what was said by then, and the book
+-- the segments when the sweep starts, what was said by then, and the progress
 unfoldable pub beforeSweep : ℕ → Separators → Policy → List Segment → List Segment
 beforeSweep key s P ss = overSegments (unnamedLeaf key s (forPosture (P .posture))) (afterRules key s (P .rules) ss)
 
@@ -282,28 +285,28 @@ eventsBeforeSweep key s P ss =
     rulesEvents key s (P .rules) ss ++ segmentsEvents (unnamedEvents key s (forPosture (P .posture))) (afterRules key s (P .rules) ss)
 
 -- z bytes are there when the run begins: the message's, and those beside it in its file
-unfoldable pub bookBeforeSweep : ℕ → ℕ → Separators → Policy → List Segment → Book
-bookBeforeSweep z key s P ss = bookAll (P .sweep) (eventsBeforeSweep key s P ss) (running [] [] z)
+unfoldable pub progressBeforeSweep : ℕ → ℕ → Separators → Policy → List Segment → Progress
+progressBeforeSweep z key s P ss = afterEvents (P .sweep) (eventsBeforeSweep key s P ss) (running [] [] z)
 
 -- the message's text and its rows, or a refusal
 pub data Redacted : Type 0 where
   done : Text → List Row → Redacted
   refused : Refusal → Redacted
 
-unfoldable pub redactedAs : Separators → Bool → Book → List Segment → Redacted
+unfoldable pub redactedAs : Separators → Bool → Progress → List Segment → Redacted
 redactedAs s cr (running ks ρs z) ss = done (printSegments s cr ss) ρs
 redactedAs s cr (stopped e) ss = refused e
 
--- "The sweep visits unnamed leaves only .. and acts on the whole leaf"; where it is off nothing was learnt
-unfoldable pub swept : ℕ → Separators → Policy → Bool → List Known → Book → List Segment → Redacted
+-- the term "sweep". "The sweep visits unnamed leaves only .. and acts on the whole leaf"; where it is off nothing was learnt
+unfoldable pub swept : ℕ → Separators → Policy → Bool → List Known → Progress → List Segment → Redacted
 swept key s P cr ks b ss =
-    redactedAs s cr (bookAll (P .sweep) (segmentsEvents (unnamedEvents key s (forSweep s ks)) ss) b)
+    redactedAs s cr (afterEvents (P .sweep) (segmentsEvents (unnamedEvents key s (forSweep s ks)) ss) b)
     (overSegments (unnamedLeaf key s (forSweep s ks)) ss)
 
 unfoldable pub redactFrom : ℕ → ℕ → Policy → Message → Redacted
 redactFrom z key P m =
     let s = m .separators in
-    let b = bookBeforeSweep z key s P (m .segments) in
+    let b = progressBeforeSweep z key s P (m .segments) in
     swept key s P (m .lastCR) (knownIn b) b (beforeSweep key s P (m .segments))
 
 -- a message by itself: nothing stands beside it

@@ -3,20 +3,21 @@
 use mathlib.Core.Path.{_≡_}
 use mathlib.Core.Bool.{Bool, true, false, not, cond, _&&_, _||_}
 use mathlib.Core.List.{List, [], _∷_, _++_}
-use mathlib.Core.Option.{some}
 use Prim.Native.Nat.{ℕ, suc, _+_, _-_}
 use lib.ListN.{length}
 use lib.Dec.{eqb, ltb}
-use Rattle.text.specs.Text.{Text, all}
+use Rattle.text.specs.Text.{Text}
 use Rattle.er7.specs.declared.separators.Separators.{Separators}
 use Rattle.refusal.specs.declared.Refusal.{Refusal}
 use Rattle.refusal.specs.declared.Refusal.the-variants.{ShortBuffer, TooLong, ForeignByte, BadHeader, BadSegment, TooMany, TooMuchLearnt, MessageTooLong, ReportTooLong, Withheld, NoSuchBuiltin}
-use Rattle.refusal.specs.Refusal.{number, tooLong}
-use Rattle.message_model.specs.Message.{Message, messageOf, isMessageByte, segmentLines, withoutLastCR, firstOf, isHeader, separatorsOf, isNamed, leavesOf, printMessage}
+use Rattle.refusal.specs.Refusal.{number, tooLong, noForeign}
+use Rattle.refusal.specs.declared.input.Input.the-variants as Inputs
+use Rattle.refusal.specs.Limits.{LEARNT_BYTES_MAX, LEARNT_MAX, LEAVES_MAX, RULES_MAX, SEGMENTS_MAX, TEXT_MAX}
+use Rattle.message_model.specs.Message.{Message, messageOf, segmentLines, withoutLastCR, firstOf, isHeader, separatorsOf, isNamed, leavesOf, printMessage}
 use Rattle.policy_model.specs.Policy as Q
-use Rattle.policy_model.specs.Policy.{Policy, PolicyRead, read, readPolicy, Saying, nothing, rule, wrong, saysLine, policyLines, isPolicyText, Unrecognised, pass, refuse, apply}
+use Rattle.policy_model.specs.Policy.{Policy, PolicyRead, read, readPolicy, LineRead, nothing, rule, wrong, readLine, policyLines, Unrecognised, pass, refuse, apply}
 use Rattle.run_model.specs.Redact.{Row, Event, learn, change, Known, knows, knownBytes, segmentsEvents, unnamedEvents, forSweep, beforeSweep, eventsBeforeSweep, printRows}
-use Rattle.run_model.specs.Entries.{Lent, LentReport, isShort, isPayloadByte}
+use Rattle.run_model.specs.Entries.{Lent, LentReport, isShort}
 
 unfoldable pub is : Refusal → Refusal → Bool
 is e x = eqb (number e) (number x)
@@ -27,7 +28,7 @@ bufferRow b e = is e ShortBuffer && isShort b
 
 -- ---- a policy
 
-unfoldable pub isWrong : Refusal → Saying → Bool
+unfoldable pub isWrong : Refusal → LineRead → Bool
 isWrong e nothing = false
 isWrong e (rule r) = false
 isWrong e (Q.posture x) = false
@@ -35,7 +36,7 @@ isWrong e (Q.unrecognised x) = false
 isWrong e (Q.sweep x) = false
 isWrong e (wrong x) = is e x
 
-unfoldable pub isRule : Saying → Bool
+unfoldable pub isRule : LineRead → Bool
 isRule nothing = false
 isRule (rule r) = true
 isRule (Q.posture x) = false
@@ -44,19 +45,19 @@ isRule (Q.sweep x) = false
 isRule (wrong x) = false
 
 -- some line is refused with e
-unfoldable pub saysWrong : Refusal → List Text → Bool
-saysWrong e [] = false
-saysWrong e (l ∷ ls) = isWrong e (saysLine l) || saysWrong e ls
+unfoldable pub anyWrong : Refusal → List Text → Bool
+anyWrong e [] = false
+anyWrong e (l ∷ ls) = isWrong e (readLine l) || anyWrong e ls
 
 unfoldable pub ruleCount : List Text → ℕ
 ruleCount [] = 0
-ruleCount (l ∷ ls) = let more = ruleCount ls in cond (isRule (saysLine l)) (suc more) more
+ruleCount (l ∷ ls) = let more = ruleCount ls in cond (isRule (readLine l)) (suc more) more
 
 -- "policy above 32,768 bytes"; "a byte other than .."; "over .. 128 rules"; and whatever a single line is refused with
 unfoldable pub policyRow : Text → Refusal → Bool
 policyRow s e =
-    is e TooLong && tooLong s || is e ForeignByte && not (isPolicyText s) || is e TooMany && ltb 128 (ruleCount (policyLines s))
-    || saysWrong e (policyLines s)
+    is e TooLong && tooLong s || is e ForeignByte && not (noForeign Inputs.Policy s) || is e TooMany && ltb RULES_MAX (ruleCount (policyLines s))
+    || anyWrong e (policyLines s)
 
 unfoldable pub withPolicyRow : PolicyRead → (Policy → Bool) → Bool
 withPolicyRow (read P) f = f P
@@ -74,7 +75,7 @@ othersOf (l ∷ ls) = ls
 
 unfoldable pub leafCount : Separators → List Text → ℕ
 leafCount s [] = 0
-leafCount s (l ∷ ls) = length (leavesOf s false l) + leafCount s ls
+leafCount s (l ∷ ls) = length (leavesOf s l) + leafCount s ls
 
 -- "message .. above 32,768 bytes"; "a byte other than .."; "MSH opening not as above, or no bytes"; "empty, wrongly named, or a
 -- second MSH, any FHS, BHS"; "over 256 segments, 4,096 leaves"
@@ -82,9 +83,9 @@ unfoldable pub messageRow : Text → Refusal → Bool
 messageRow t e =
     let ls = segmentLines [] (withoutLastCR t) in
     let s = separatorsOf (firstOf ls) in
-    is e TooLong && tooLong t || is e ForeignByte && not (all isMessageByte t) || is e BadHeader && not (isHeader (firstOf ls))
+    is e TooLong && tooLong t || is e ForeignByte && not (noForeign Inputs.Message t) || is e BadHeader && not (isHeader (firstOf ls))
     || is e BadSegment && not (allNamed s (othersOf ls))
-    || is e TooMany && (ltb 256 (length ls) || ltb 4096 (length (leavesOf s true (firstOf ls)) + leafCount s (othersOf ls)))
+    || is e TooMany && (ltb SEGMENTS_MAX (length ls) || ltb LEAVES_MAX (leafCount s ls))
 
 -- ---- a run, with nothing that stops it
 
@@ -103,7 +104,7 @@ rowsOf (change ρ went came ∷ es) = ρ ∷ rowsOf es
 unfoldable pub overflows : ℕ → List Event → Bool
 overflows z [] = false
 overflows z (learn v a ∷ es) = overflows z es
-overflows z (change ρ went came ∷ es) = ltb 49152 (z - went + came) || overflows (z - went + came) es
+overflows z (change ρ went came ∷ es) = ltb TEXT_MAX (z - went + came) || overflows (z - went + came) es
 
 unfoldable pub learntIn : ℕ → Policy → Message → List Known
 learntIn key P m = cond (P .sweep) (learntFrom [] (eventsBeforeSweep key (m .separators) P (m .segments))) []
@@ -116,7 +117,7 @@ eventsOf key P m =
 
 -- "a 513th value or over 16,384 bytes of them"
 unfoldable pub exceeds : List Known → Bool
-exceeds ks = ltb 512 (length ks) || ltb 16384 (knownBytes ks)
+exceeds ks = ltb LEARNT_MAX (length ks) || ltb LEARNT_BYTES_MAX (knownBytes ks)
 
 -- "sweep on, and .."; "a change leaves the message over 49,152 bytes"; "report longer than
 -- its buffer"
@@ -141,7 +142,7 @@ rowOfPrint b policy e = bufferRow b e || policyRow policy e
 unfoldable pub rowOfAppend : Lent → Text → Text → Refusal → Bool
 rowOfAppend b first second e =
     bufferRow b e || (policyRow first e || (policyRow second e
-    || withPolicyRow (readPolicy first) λ P. withPolicyRow (readPolicy second) λ Q. is e TooMany && ltb 128 (length (P .rules) + length (Q .rules))))
+    || withPolicyRow (readPolicy first) λ P. withPolicyRow (readPolicy second) λ Q. is e TooMany && ltb RULES_MAX (length (P .rules) + length (Q .rules))))
 
 -- "number above 3"
 unfoldable pub rowOfBuiltin : Lent → ℕ → Refusal → Bool
@@ -155,7 +156,7 @@ refuses (apply a) = false
 -- "payload above 32,768 bytes"; "a byte other than .."; "payload under refuse"
 unfoldable pub rowOfPayload : Lent → Text → Text → Refusal → Bool
 rowOfPayload b payload policy e =
-    bufferRow b e || (policyRow policy e || ((is e TooLong && tooLong payload || is e ForeignByte && not (all isPayloadByte payload))
+    bufferRow b e || (policyRow policy e || ((is e TooLong && tooLong payload || is e ForeignByte && not (noForeign Inputs.Payload payload))
     || withPolicyRow (readPolicy policy) λ P. is e Withheld && refuses (P .unrecognised)))
 
 -- ---- "Success is 0, exactly when no row applies": a call's number n, by the rows that apply to it

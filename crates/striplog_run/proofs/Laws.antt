@@ -11,12 +11,13 @@ use Rattle.run_model.specs.Redact.{printRows}
 use Rattle.run_model.specs.Entries.{LentReport, Answer, Redaction, RedactOutcome, redactionOf, filled, outcomeWithReport, redactAnswer, redactOutcome}
 use Rattle.striplog_text.specs.declared.key.Key.{Key}
 use Rattle.striplog_text.specs.declared.key.Key.the-variants.{Nothing, Digits, Ended, Bad}
-use Rattle.striplog_text.specs.Striplog.{printed, printedOutcome, badInput, buffers, strippedWith}
+use Rattle.striplog_text.specs.Striplog.{printed, printedOutcome, badInput, lentBuffers, strippedWith}
 use Rattle.striplog_text.specs.Key.{keyOf}
 use Rattle.striplog_text.proofs.Lines.{printed-most}
 use Rattle.striplog_run.specs.Files.{fileIf}
 use Rattle.entries.specs.Returned.{asRedactOutcome, lent, lentReport}
 use Rattle.entries.specs.declared.returned.ReturnedReport.{ReturnedReport}
+use Rattle.refusal.specs.Limits.{TEXT_MAX}
 
 -- ---- what is printed
 
@@ -39,11 +40,11 @@ module _ (m p : Text) (a b : Bool) where
       go true false = refl
       go false b = refl
 
-  all-there : (n : ℕ) → not (a && b) ≡ false → printedOutcome (redactOutcome buffers m p n) ≡ strippedWith (fileIf a m) (fileIf b p) (some n)
+  all-there : (n : ℕ) → not (a && b) ≡ false → printedOutcome (redactOutcome lentBuffers m p n) ≡ strippedWith (fileIf a m) (fileIf b p) (some n)
   unfolding strippedWith fileIf
   all-there n h = go a b h
     where
-      go : (a b : Bool) → not (a && b) ≡ false → printedOutcome (redactOutcome buffers m p n) ≡ strippedWith (fileIf a m) (fileIf b p) (some n)
+      go : (a b : Bool) → not (a && b) ≡ false → printedOutcome (redactOutcome lentBuffers m p n) ≡ strippedWith (fileIf a m) (fileIf b p) (some n)
       go true true h = refl
       go true false h = clash h
       go false b h = clash h
@@ -60,7 +61,7 @@ module _ (m p : Text) (a b : Bool) where
     unfolding keyOf
     wrote-bad e w = rw (e, ← no-key) w
 
-    module _ {n : ℕ} (h : not (a && b) ≡ false) (w : Wrote d 0 (printedOutcome (redactOutcome buffers m p n)) d′ r) where
+    module _ {n : ℕ} (h : not (a && b) ≡ false) (w : Wrote d 0 (printedOutcome (redactOutcome lentBuffers m p n)) d′ r) where
       pub wrote-digits : k ≡ Digits n → Wrote d 0 (strippedWith (fileIf a m) (fileIf b p) (keyOf k)) d′ r
       unfolding keyOf
       wrote-digits e = rw (e, ← all-there n h) w
@@ -85,26 +86,26 @@ module _ (b : LentReport) (a : Answer Redaction) where
   unfolding outcomeWithReport
   report-most e = filled-most (printRows (redactionOf a .rows)) (b .report) e
 
-module _ (h : ReturnedReport) (o r s m p : Text) (k : ℕ) (e : asRedactOutcome h o r s ≡ redactOutcome (lentReport 49152 65536 49152) m p k) where
-  pub text-end : length o ≡ 49152 → h .«text_len» ≤ 49152
+module _ (h : ReturnedReport) (o r s m p : Text) (k : ℕ) (e : asRedactOutcome h o r s ≡ redactOutcome (lentReport TEXT_MAX 65536 TEXT_MAX) m p k) where
+  pub text-end : length o ≡ TEXT_MAX → h .«text_len» ≤ TEXT_MAX
   unfolding asRedactOutcome redactOutcome lentReport lent
-  text-end l = rw (ap (λ (x : RedactOutcome). x .textLength) e) (text-most (lentReport 49152 65536 49152) (redactAnswer (lentReport 49152 65536 49152) m p k) (sym (ap (λ (x : RedactOutcome). length (x .output)) e) ∙ l))
+  text-end l = rw (ap (λ (x : RedactOutcome). x .textLength) e) (text-most (lentReport TEXT_MAX 65536 TEXT_MAX) (redactAnswer (lentReport TEXT_MAX 65536 TEXT_MAX) m p k) (sym (ap (λ (x : RedactOutcome). length (x .output)) e) ∙ l))
 
   pub report-end : length r ≡ 65536 → h .«report_len» ≤ 65536
   unfolding asRedactOutcome redactOutcome lentReport lent
-  report-end l = rw (ap (λ (x : RedactOutcome). x .reportLength) e) (report-most (lentReport 49152 65536 49152) (redactAnswer (lentReport 49152 65536 49152) m p k) (sym (ap (λ (x : RedactOutcome). length (x .report)) e) ∙ l))
+  report-end l = rw (ap (λ (x : RedactOutcome). x .reportLength) e) (report-most (lentReport TEXT_MAX 65536 TEXT_MAX) (redactAnswer (lentReport TEXT_MAX 65536 TEXT_MAX) m p k) (sym (ap (λ (x : RedactOutcome). length (x .report)) e) ∙ l))
 
-  pub returned-prints : printed (h .number) (h .line) (take (h .«text_len» - 0) o) (take (h .«report_len» - 0) r) (h .rows) ≡ printedOutcome (redactOutcome buffers m p k)
-  unfolding asRedactOutcome lentReport lent buffers printedOutcome
+  pub returned-prints : printed (h .number) (h .line) (take (h .«text_len» - 0) o) (take (h .«report_len» - 0) r) (h .rows) ≡ printedOutcome (redactOutcome lentBuffers m p k)
+  unfolding asRedactOutcome lentReport lent lentBuffers printedOutcome
   returned-prints =
       let t : h .«text_len» - 0 ≡ h .«text_len» = omega arith in
       let n : h .«report_len» - 0 ≡ h .«report_len» = omega arith in
       rw (t, n) (ap printedOutcome e)
 
 -- and there is room for what is printed of it
-pub returned-room : (h : ReturnedReport) (o r : Text) (n : ℕ) → h .number < 2 ^ 64 → h .line < 2 ^ 64 → h .rows < 2 ^ 64 → length o ≡ 49152 → length r ≡ 65536 → 114714 ≤ n
+pub returned-room : (h : ReturnedReport) (o r : Text) (n : ℕ) → h .number < 2 ^ 64 → h .line < 2 ^ 64 → h .rows < 2 ^ 64 → length o ≡ TEXT_MAX → length r ≡ 65536 → 114714 ≤ n
     → length (printed (h .number) (h .line) (take (h .«text_len» - 0) o) (take (h .«report_len» - 0) r) (h .rows)) ≤ n
 returned-room h o r n hn hl hr lo lr k =
-    let a : length (take (h .«text_len» - 0) o) ≤ 49152 = simp length-take (omega arith) in
+    let a : length (take (h .«text_len» - 0) o) ≤ TEXT_MAX = simp length-take (omega arith) in
     let b : length (take (h .«report_len» - 0) r) ≤ 65536 = simp length-take (omega arith) in
     omega (arith, printed-most (h .number) (h .line) (h .rows) (take (h .«text_len» - 0) o) (take (h .«report_len» - 0) r) hn hl hr a b)

@@ -1,5 +1,6 @@
 // What striplog prints, from the bytes of its files.
 use redact::redact::redact;
+use refusal::limits::TEXT_MAX;
 use striplog_text::key::Key;
 use striplog_text::print::put_bad_input;
 use striplog_text::print::put_outcome;
@@ -7,18 +8,18 @@ ghost use Prim.Native.Nat.{_≤_};
 ghost use lib.ListN.{length};
 ghost use Rattle.text.specs.Text.{Wrote};
 ghost use Rattle.run_model.specs.Entries.{redactOutcome};
-ghost use Rattle.striplog_text.specs.Striplog.{buffers, printedOutcome, strippedWith};
+ghost use Rattle.striplog_text.specs.Striplog.{lentBuffers, printedOutcome, strippedWith};
 ghost use Rattle.striplog_text.specs.Key.{keyOf};
 ghost use Rattle.striplog_run.specs.Files.{fileIf};
 
 // Redacts the message, writes what is printed of it to the front of out, and returns its length.
 fn put_redacted(message: &[u8], policy: &[u8], key: u64, out: &mut [u8]) -> usize
     requires { ⌜ 114714 ≤ length (now out) ⌝ }
-    ensures { λ r. ⌜ Wrote (now (out .entry)) 0 (printedOutcome (redactOutcome buffers (now (message .entry)) (now (policy .entry)) key)) (now (out .exit)) r ⌝ }
+    ensures { λ r. ⌜ Wrote (now (out .entry)) 0 (printedOutcome (redactOutcome lentBuffers (now (message .entry)) (now (policy .entry)) key)) (now (out .exit)) r ⌝ }
 {
-    let mut output = [0u8; 49152];
+    let mut output = [0u8; TEXT_MAX];
     let mut report = [0u8; 65536];
-    let mut scratch = [0u8; 49152];
+    let mut scratch = [0u8; TEXT_MAX];
     let returned = redact(message, policy, key, &mut output, &mut report, &mut scratch);
     let text_end = returned.text_len as usize;
     let report_end = returned.report_len as usize;

@@ -12,6 +12,7 @@ use Rattle.text.specs.Text.{Text}
 use Rattle.text.proofs.Laws.{split}
 use Rattle.refusal.specs.declared.Refusal.the-variants.{TooLong}
 use Rattle.refusal.specs.Refusal.{tooLong}
+use Rattle.refusal.specs.Limits.{INPUT_MAX}
 use Rattle.message_model.specs.Message.{messageFault}
 use Rattle.policy_model.specs.Policy.{readPolicy, refused}
 use Rattle.run_model.specs.Entries.{LentReport, withoutFault, redactAnswer, redactOutcome}
@@ -23,8 +24,8 @@ use Rattle.striplog_text.proofs.Keys.{key-read-in-chunks}
 -- the first 32,769 bytes are all, or too many, as the whole text is
 whole-or-long {ℓ} : {X : Type ℓ} (t : Text) → (take 32769 t ≡ t → X) → (tooLong (take 32769 t) ≡ true → tooLong t ≡ true → X) → X
 unfolding tooLong
-whole-or-long t f g = split 32768 (length t)
-    (λ h. g (lt-ltb 32768 (length (take 32769 t)) (simp length-take (omega arith))) (lt-ltb 32768 (length t) h))
+whole-or-long t f g = split INPUT_MAX (length t)
+    (λ h. g (lt-ltb INPUT_MAX (length (take 32769 t)) (simp length-take (omega arith))) (lt-ltb INPUT_MAX (length t) h))
     (λ h. f (take-all 32769 t (omega arith)))
 
 long-message : (t : Text) → tooLong t ≡ true → messageFault t ≡ some TooLong

@@ -11,6 +11,7 @@ use Rattle.text.proofs.Decimals.{length-u64}
 use Rattle.text.proofs.Laws.{zero-or}
 use Rattle.text.proofs.Writes.{wrote-then}
 use Rattle.striplog_text.specs.Striplog.{rowsLine, refusedLine, printed}
+use Rattle.refusal.specs.Limits.{TEXT_MAX}
 
 -- digits and LF
 ended-length : (n : ℕ) → length (decimal n ++ (0x0a ∷ [])) ≡ length (decimal n) + 1
@@ -59,7 +60,7 @@ module _ (number line rows : ℕ) (text report : Text) where
   refusal-wrote h f = rw (printed-refusal h) f
 
 -- no more than 49,152 bytes of text and 65,536 of report, and a line
-pub printed-most : (number line rows : ℕ) (text report : Text) → number < 2 ^ 64 → line < 2 ^ 64 → rows < 2 ^ 64 → length text ≤ 49152 → length report ≤ 65536
+pub printed-most : (number line rows : ℕ) (text report : Text) → number < 2 ^ 64 → line < 2 ^ 64 → rows < 2 ^ 64 → length text ≤ TEXT_MAX → length report ≤ 65536
     → length (printed number line text report rows) ≤ 114714
 printed-most number line rows text report hn hl hr ht hp = zero-or number
     (λ e. omega (arith, success-length number line rows text report e, rows-length rows, length-u64 rows hr))

@@ -8,6 +8,7 @@ use lib.ListN.{take}
 use Rattle.text.specs.Text.{Text, bytes, same, isEmpty}
 use Rattle.text.specs.Number.{decimal, Taken, taken, refused, takeNumber}
 use Rattle.run_model.specs.Entries.{LentReport, RedactOutcome, redactOutcome}
+use Rattle.refusal.specs.Limits.{TEXT_MAX}
 
 -- ---- the key
 
@@ -48,15 +49,15 @@ badInput = bytes "bad input\n"
 -- ---- the whole program
 
 -- "lends a report of 65,536 bytes"; the other two are as long as they must be
-unfoldable pub buffers : LentReport
-buffers = record { buffers = record { output = 49152; scratch = 49152 }; report = 65536 }
+unfoldable pub lentBuffers : LentReport
+lentBuffers = record { buffers = record { output = TEXT_MAX; scratch = TEXT_MAX }; report = 65536 }
 
 -- "a missing file or a bad key prints `bad input` and LF alone": from the bytes of message and policy, none if missing, and the key, none if bad
 unfoldable pub strippedWith : Option Text → Option Text → Option ℕ → Text
 strippedWith none policy key = badInput
 strippedWith (some m) none key = badInput
 strippedWith (some m) (some p) none = badInput
-strippedWith (some m) (some p) (some k) = printedOutcome (redactOutcome buffers m p k)
+strippedWith (some m) (some p) (some k) = printedOutcome (redactOutcome lentBuffers m p k)
 
 unfoldable pub keyIn : Option Text → Option ℕ
 keyIn none = none

@@ -1,6 +1,6 @@
 -- Characters and words of a text. What counts characters, asks for a letter or digit, for lower case, for blanks or for a word goes by
 -- these names. Every text that an entry accepts is ASCII, so that a character is a byte. Assumes nothing: these are definitions.
-use mathlib.Core.Bool.{Bool, false}
+use mathlib.Core.Bool.{Bool, false, cond}
 use mathlib.Core.List.{[], _∷_}
 use mathlib.Core.Option.{Option, none, some}
 use Prim.Native.Nat.{ℕ, _-_}
@@ -42,6 +42,18 @@ word s = run notBlank s
 
 abbrev pub behindWord : Text → Text
 behindWord s = rest notBlank s
+
+-- a text without the blanks and tabs at its end, and at both ends
+unfoldable pub prepend : ℕ → Text → Text
+prepend x [] = cond (isBlank x) [] (x ∷ [])
+prepend x (y ∷ t) = x ∷ y ∷ t
+
+unfoldable pub trimEnd : Text → Text
+trimEnd [] = []
+trimEnd (x ∷ s) = prepend x (trimEnd s)
+
+unfoldable pub trim : Text → Text
+trim s = trimEnd (skipBlanks s)
 
 -- a letter or digit stands at the front; and behind the first byte of a text with or without one before it
 abbrev pub isWordChar : Text → Bool

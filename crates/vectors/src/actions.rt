@@ -21,15 +21,14 @@ pub fn action(a: &[u8], got: &mut Page) -> usize {
 
 // What the action a makes of the value c under the key b.
 pub fn apply(a: &[u8], b: &[u8], c: &[u8], got: &mut Page) -> usize {
-    if 8192 < a.len() {
-        return 0;
-    }
-    if 8192 < c.len() {
-        return 0;
-    }
     match action::parse(a, 0) {
         ParsedAction::Parsed(p) => match action::applied_len(p, c) {
-            Applied::Written(_) => action::apply(p, a, number(b), c, got, 0),
+            Applied::Written(n) => {
+                if 131072 < n {
+                    return 0;
+                }
+                action::apply(p, a, number(b), c, got, 0)
+            }
             Applied::Nothing => put(b"nothing", got, 0),
         },
         ParsedAction::Refused(_) => put(b"refused", got, 0),

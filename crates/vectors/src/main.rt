@@ -13,10 +13,10 @@ mod values;
 use libc::STDOUT_FILENO;
 
 // Room for a file.
-type Book = [u8; 262144];
+type Progress = [u8; 262144];
 
 // Puts the file's bytes into buf, and returns their number.
-fn load(name: &[u8], buf: &mut Book) -> usize {
+fn load(name: &[u8], buf: &mut Progress) -> usize {
     let fd = os::open_read(name);
     let n = io::read_full(fd, buf);
     libc::close(fd);
@@ -24,7 +24,7 @@ fn load(name: &[u8], buf: &mut Book) -> usize {
 }
 
 // The first n bytes of buf.
-fn front<'a>(buf: &'a Book, n: usize) -> &'a [u8] {
+fn front<'a>(buf: &'a Progress, n: usize) -> &'a [u8] {
     let all = &buf[..];
     if all.len() < n {
         return all;

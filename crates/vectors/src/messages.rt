@@ -8,13 +8,14 @@ use super::parts::put_number;
 use super::parts::put_refused;
 use super::parts::put_repeated;
 use super::parts::sum;
-use er7_message::message::Counts;
+use er7_message::message::Layout;
 use er7_message::message::ParsedMessage;
 use er7_message::message::parse;
+use refusal::limits::LEAVES_MAX;
 
 // Cell k of row i of a table, 0 if it has fewer.
 fn cell(table: &[usize], i: usize, k: usize) -> usize {
-    if 4096 < i {
+    if LEAVES_MAX < i {
         return 0;
     }
     if 7 < k {
@@ -137,13 +138,13 @@ fn put_message(
     group: usize,
     text: &[u8],
     segs: &[usize; 2056],
-    counts: Counts,
+    layout: Layout,
     cells: &[usize],
     got: &mut Page,
 ) -> usize {
     let rows = &segs[..];
-    let k = put_segments(text, rows, counts.segments, cells, got);
-    let n = if counts.last_cr {
+    let k = put_segments(text, rows, layout.segments, cells, got);
+    let n = if layout.last_cr {
         put(b"CR", got, k)
     } else {
         k
@@ -154,9 +155,9 @@ fn put_message(
 // Reads a message and lists it, or writes the refusal.
 fn list(group: usize, text: &[u8], got: &mut Page) -> usize {
     let mut segs = [0usize; 2056];
-    let mut cells = [0usize; 32768];
+    let mut cells = [0usize; LEAVES_MAX * 8];
     match parse(text, &mut segs, &mut cells) {
-        ParsedMessage::Read(counts) => put_message(group, text, &segs, counts, &cells, got),
+        ParsedMessage::Read(layout) => put_message(group, text, &segs, layout, &cells, got),
         ParsedMessage::Refused(why) => put_refused(why, got),
     }
 }

@@ -19,8 +19,8 @@ same-length-2 c = search needs
 returns : tie.Need-returns
 returns c = c .before .before .before .before .refuse .ensures ∙ ap (outcome _) (sym (fault-long _ _ (omega arith)))
 
-are-payload-bytes-requires : tie.Need-are-payload-bytes-requires
-are-payload-bytes-requires c κs = search needs
+no-foreign-requires : tie.Need-no-foreign-requires
+no-foreign-requires c κs = search needs
 
 refuse-requires-2 : tie.Need-refuse-requires-2
 refuse-requires-2 c κs = search needs
@@ -32,7 +32,7 @@ same-length-4 : tie.Need-same-length-4
 same-length-4 c = search needs
 
 returns-2 : tie.Need-returns-2
-returns-2 c = c .before .before .before .before .refuse2 .ensures ∙ ap (outcome _) (sym (fault-foreign _ _ (omega arith) (sym (c .before .before .before .before .before .before .before .before .are-payload-bytes .ensures) ∙ not-true _ (c .before .before .before .before .before .before .before .if2 .taken))))
+returns-2 c = c .before .before .before .before .refuse2 .ensures ∙ ap (outcome _) (sym (fault-foreign _ _ (omega arith) (sym (c .before .before .before .before .before .before .before .before .no-foreign .ensures) ∙ not-true _ (c .before .before .before .before .before .before .before .if2 .taken))))
 
 answer-payload-requires : tie.Need-answer-payload-requires
 answer-payload-requires c κs = (c .before .before .before .before .before .before .before .before .before .pre .0, c .before .before .before .before .before .before .before .before .before .pre .1, omega arith, c .before .before .before .before .before .before .before .before .before .pre .2)
@@ -44,7 +44,7 @@ same-length-6 : tie.Need-same-length-6
 same-length-6 c = search needs
 
 returns-3 : tie.Need-returns-3
-returns-3 c = c .before .before .before .before .answer-payload .ensures ∙ ap (outcome _) (sym (fault-none _ _ (omega arith) (sym (c .before .before .before .before .before .before .before .before .are-payload-bytes .ensures) ∙ not-false _ (c .before .before .before .before .before .before .before .if2 .left))))
+returns-3 c = c .before .before .before .before .answer-payload .ensures ∙ ap (outcome _) (sym (fault-none _ _ (omega arith) (sym (c .before .before .before .before .before .before .before .before .no-foreign .ensures) ∙ not-false _ (c .before .before .before .before .before .before .before .if2 .left))))
 
 pub judge-spec : {M : Type 1} → statement M
 judge-spec =
@@ -54,7 +54,7 @@ judge-spec =
     same-length
     same-length-2
     returns
-    are-payload-bytes-requires
+    no-foreign-requires
     refuse-requires-2
     same-length-3
     same-length-4

@@ -1,7 +1,6 @@
 use Rattle.er7_message.proofs.message.is_name.Statement.{statement}
 use Rattle.er7_message.proofs.message.is_name.Tie as tie
 use borrow.Author.Needs.{needs}
-use Rattle.text.specs.Text.{bytes}
 use Rattle.er7_message.proofs.Names.{name-is}
 
 shared-slice-read-is-name-byte : tie.Need-shared-slice-read-is-name-byte
@@ -22,27 +21,20 @@ shared-slice-read-is-name-byte-3 c = search needs
 is-name-byte-requires-3 : tie.Need-is-name-byte-requires-3
 is-name-byte-requires-3 c κs = search needs
 
-slice-aggregate-same-bytes : tie.Need-slice-aggregate-same-bytes
-slice-aggregate-same-bytes c = search needs
+shared-slice-read-is-header-name : tie.Need-shared-slice-read-is-header-name
+shared-slice-read-is-header-name c = search needs
 
-same-bytes-requires : tie.Need-same-bytes-requires
-same-bytes-requires c κs = search needs
+shared-slice-read-is-header-name-2 : tie.Need-shared-slice-read-is-header-name-2
+shared-slice-read-is-header-name-2 c = search needs
 
-slice-aggregate-same-bytes-2 : tie.Need-slice-aggregate-same-bytes-2
-slice-aggregate-same-bytes-2 c = search needs
+shared-slice-read-is-header-name-3 : tie.Need-shared-slice-read-is-header-name-3
+shared-slice-read-is-header-name-3 c = search needs
 
-same-bytes-requires-2 : tie.Need-same-bytes-requires-2
-same-bytes-requires-2 c κs = search needs
-
-slice-aggregate-same-bytes-3 : tie.Need-slice-aggregate-same-bytes-3
-slice-aggregate-same-bytes-3 c = search needs
-
-same-bytes-requires-3 : tie.Need-same-bytes-requires-3
-same-bytes-requires-3 c κs = search needs
+is-header-name-requires : tie.Need-is-header-name-requires
+is-header-name-requires c κs = search needs
 
 returns : tie.Need-returns
-unfolding bytes
-returns c = name-is _ (c .before .before .before .before .before .before .before .before .before .before .before .before .before .pre) (c .before .before .before .before .before .before .before .before .before .before .is-name-byte .ensures) (c .before .before .before .before .before .before .before .before .is-name-byte2 .ensures) (c .before .before .before .before .before .before .is-name-byte3 .ensures) (c .before .before .before .before .same-bytes .ensures) (c .before .before .same-bytes2 .ensures) (c .same-bytes3 .ensures)
+returns c = name-is _ (c .before .before .before .before .before .before .before .before .before .before .before .pre) (c .before .before .before .before .before .before .before .before .is-name-byte .ensures) (c .before .before .before .before .before .before .is-name-byte2 .ensures) (c .before .before .before .before .is-name-byte3 .ensures) (c .is-header-name .ensures)
 
 pub is-name-spec : {M : Type 1} → statement M
 is-name-spec =
@@ -54,10 +46,8 @@ is-name-spec =
     is-name-byte-requires-2
     shared-slice-read-is-name-byte-3
     is-name-byte-requires-3
-    slice-aggregate-same-bytes
-    same-bytes-requires
-    slice-aggregate-same-bytes-2
-    same-bytes-requires-2
-    slice-aggregate-same-bytes-3
-    same-bytes-requires-3
+    shared-slice-read-is-header-name
+    shared-slice-read-is-header-name-2
+    shared-slice-read-is-header-name-3
+    is-header-name-requires
     returns)

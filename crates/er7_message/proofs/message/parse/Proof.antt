@@ -10,11 +10,11 @@ use Rattle.er7_message.proofs.Reading.{room-front}
 returns : tie.Need-returns
 returns c = message-long _ (omega arith) _ _ _
 
-are-message-bytes-requires : tie.Need-are-message-bytes-requires
-are-message-bytes-requires c κs = search needs
+no-foreign-requires : tie.Need-no-foreign-requires
+no-foreign-requires c κs = search needs
 
 returns-2 : tie.Need-returns-2
-returns-2 c = message-foreign _ (omega arith) (c .before .are-message-bytes .ensures) (not-true _ (c .if2 .taken)) _ _ _
+returns-2 c = message-foreign _ (omega arith) (c .before .no-foreign .ensures) (not-true _ (c .if2 .taken)) _ _ _
 
 ends-in-cr-requires : tie.Need-ends-in-cr-requires
 ends-in-cr-requires c κs = search needs
@@ -38,7 +38,7 @@ same-length : tie.Need-same-length
 same-length c = search needs
 
 returns-3 : tie.Need-returns-3
-returns-3 c = message-ended (c .before .before .before .before .before .before .before .before .before .before .before .before .before .args .text .now) (omega arith) (c .before .before .before .before .before .before .before .before .before .are-message-bytes .ensures) (not-false _ (c .before .before .before .before .before .before .before .before .if2 .left)) (c .before .before .before .before .before .before .before .ends-in-cr .ensures) (c .before .before .before .before .before .before .if3 .taken) (c .before .before .parse-lines .ensures)
+returns-3 c = message-ended (c .before .before .before .before .before .before .before .before .before .before .before .before .before .args .text .now) (omega arith) (c .before .before .before .before .before .before .before .before .before .no-foreign .ensures) (not-false _ (c .before .before .before .before .before .before .before .before .if2 .left)) (c .before .before .before .before .before .before .before .ends-in-cr .ensures) (c .before .before .before .before .before .before .if3 .taken) (c .before .before .parse-lines .ensures)
 
 parse-lines-requires-2 : tie.Need-parse-lines-requires-2
 parse-lines-requires-2 c κs = search needs
@@ -47,14 +47,14 @@ same-length-2 : tie.Need-same-length-2
 same-length-2 c = search needs
 
 returns-4 : tie.Need-returns-4
-returns-4 c = message-open _ (omega arith) (c .before .before .before .before .before .before .before .before .are-message-bytes .ensures) (not-false _ (c .before .before .before .before .before .before .before .if2 .left)) (c .before .before .before .before .before .before .ends-in-cr .ensures) (c .before .before .before .before .before .if3 .left) (c .before .before .parse-lines2 .ensures)
+returns-4 c = message-open _ (omega arith) (c .before .before .before .before .before .before .before .before .no-foreign .ensures) (not-false _ (c .before .before .before .before .before .before .before .if2 .left)) (c .before .before .before .before .before .before .ends-in-cr .ensures) (c .before .before .before .before .before .if3 .left) (c .before .before .parse-lines2 .ensures)
 
 pub parse-spec : {M : Type 1} → statement M
 parse-spec =
     tie.close
     (tie.spec
     returns
-    are-message-bytes-requires
+    no-foreign-requires
     returns-2
     ends-in-cr-requires
     sub-n

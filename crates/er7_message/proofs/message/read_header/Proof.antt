@@ -24,7 +24,7 @@ same-length : tie.Need-same-length
 same-length c = search needs
 
 returns : tie.Need-returns
-returns c = header-too-many _ _ _ (c .before .before .before .before .before .before .before .before .before .before .before .before .before .before .before .before .before .pre .0) (c .before .before .before .before .before .before .before .before .before .before .before .before .before .before .before .before .before .pre .1) (c .before .before .before .before .before .before .before .before .before .before .before .before .before .before .before .before .before .pre .2) (put-at 1 (c .before .before .before .before .before .before .before .before .before .before .before .before .before .at-field .ensures) (c .before .before .before .before .before .before .before .before .before .before .before .before .put-leaf .ensures)) (put-at 2 (c .before .before .before .before .before .before .before .before .at-field2 .ensures) (c .before .before .before .before .before .before .before .put-leaf2 .ensures)) (c .before .before .before .read-behind .ensures) _ _ (omega arith)
+returns c = header-too-many _ _ _ (c .before .before .before .before .before .before .before .before .before .before .before .before .before .before .before .before .before .pre .0) (c .before .before .before .before .before .before .before .before .before .before .before .before .before .before .before .before .before .pre .1) (c .before .before .before .before .before .before .before .before .before .before .before .before .before .before .before .before .before .pre .2) (c .before .before .before .before .before .before .before .before .before .before .before .before .before .before .before .before .before .pre .4) (put-at 1 (c .before .before .before .before .before .before .before .before .before .before .before .before .before .at-field .ensures) (c .before .before .before .before .before .before .before .before .before .before .before .before .put-leaf .ensures)) (put-at 2 (c .before .before .before .before .before .before .before .before .at-field2 .ensures) (c .before .before .before .before .before .before .before .put-leaf2 .ensures)) (c .before .before .before .read-behind .ensures) _ _ (omega arith)
 
 shared-slice-read-a : tie.Need-shared-slice-read-a
 shared-slice-read-a c = search needs
@@ -51,7 +51,7 @@ same-length-2 : tie.Need-same-length-2
 same-length-2 c = search needs
 
 returns-2 : tie.Need-returns-2
-returns-2 c = header-fits _ _ _ (c .before .before .before .before .before .before .before .before .before .before .before .before .before .before .before .before .before .before .before .before .before .before .pre .0) (c .before .before .before .before .before .before .before .before .before .before .before .before .before .before .before .before .before .before .before .before .before .before .pre .1) (c .before .before .before .before .before .before .before .before .before .before .before .before .before .before .before .before .before .before .before .before .before .before .pre .2) (put-at 1 (c .before .before .before .before .before .before .before .before .before .before .before .before .before .before .before .before .before .before .at-field .ensures) (c .before .before .before .before .before .before .before .before .before .before .before .before .before .before .before .before .before .put-leaf .ensures)) (put-at 2 (c .before .before .before .before .before .before .before .before .before .before .before .before .before .at-field2 .ensures) (c .before .before .before .before .before .before .before .before .before .before .before .before .put-leaf2 .ensures)) (c .before .before .before .before .before .before .before .before .read-behind .ensures) (omega arith) (c .put-segment .ensures)
+returns-2 c = header-fits _ _ _ (c .before .before .before .before .before .before .before .before .before .before .before .before .before .before .before .before .before .before .before .before .before .before .pre .0) (c .before .before .before .before .before .before .before .before .before .before .before .before .before .before .before .before .before .before .before .before .before .before .pre .1) (c .before .before .before .before .before .before .before .before .before .before .before .before .before .before .before .before .before .before .before .before .before .before .pre .2) (c .before .before .before .before .before .before .before .before .before .before .before .before .before .before .before .before .before .before .before .before .before .before .pre .4) (put-at 1 (c .before .before .before .before .before .before .before .before .before .before .before .before .before .before .before .before .before .before .at-field .ensures) (c .before .before .before .before .before .before .before .before .before .before .before .before .before .before .before .before .before .put-leaf .ensures)) (put-at 2 (c .before .before .before .before .before .before .before .before .before .before .before .before .before .at-field2 .ensures) (c .before .before .before .before .before .before .before .before .before .before .before .before .put-leaf2 .ensures)) (c .before .before .before .before .before .before .before .before .read-behind .ensures) (omega arith) (c .put-segment .ensures)
 
 pub read-header-spec : {M : Type 1} → statement M
 read-header-spec =

@@ -2,11 +2,12 @@ use Rattle.er7_message.proofs.message.read_lines.Statement.{statement}
 use Rattle.er7_message.proofs.message.read_lines.Tie as tie
 use borrow.Author.Needs.{needs}
 use native.Mathlib.Omega.{arith}
+use Rattle.message_model.proofs.Faultless.{header-line}
 use Rattle.er7_message.proofs.Reading.{header-too-many, header-on, header-done}
 use Rattle.er7_message.proofs.Reading.{room-kept}
 
 read-header-requires : tie.Need-read-header-requires
-read-header-requires c κs = (c .before .before .before .before .pre .0 .long, c .before .before .before .before .pre .0 .end .high, c .before .before .before .before .pre .0 .named, search needs)
+read-header-requires c κs = (c .before .before .before .before .pre .0 .long, c .before .before .before .before .pre .0 .end .high, c .before .before .before .before .pre .0 .named, search needs, header-line _ (c .before .before .before .before .pre .0 .header) .header)
 
 same-length : tie.Need-same-length
 same-length c = search needs

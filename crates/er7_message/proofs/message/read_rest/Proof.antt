@@ -10,7 +10,7 @@ use lib.ListN.{length, drop}
 use Rattle.text.specs.Text.{part}
 use Rattle.message_model.specs.Message.{segmentLines}
 use Rattle.er7_message.specs.Inner.{line, Reading}
-use Rattle.er7_message.proofs.Segments.{named-long}
+use Rattle.er7_message.proofs.Segments.{named-long, named-no-header}
 use Rattle.er7_message.proofs.Reading.{judged, line-bad, line-too-many, line-on, line-done}
 use Rattle.er7_message.proofs.Reading.{room-kept}
 
@@ -48,7 +48,7 @@ returns c = line-bad (c .before .before .before .before .loop .inv .2) (c .befor
 
 read-segment-requires : tie.Need-read-segment-requires Inv-loop μ-loop
 unfolding line part
-read-segment-requires c κs = (named-long (c .before .before .before .before .before .before .before .before .before .args .s) (c .before .before .before .before .before .before .before .before .before .args .text .now) (c .before .before .before .before .before .before .loop .i) _ (c .before .before .before .before .before .line-end .ensures .high) (c .before .before .before .is-named .ensures) (not-false _ (c .before .before .if1 .left)), c .before .before .before .before .before .line-end .ensures .high, c .before .before .before .before .before .before .loop .inv .1, c .before .before .before .before .before .before .loop .inv .2 .many, c .before .before .before .before .before .before .loop .inv .2 .few, c .before .before .before .before .before .before .loop .inv .4, c .before .before .before .before .before .before .loop .inv .2 .leaf-room, c .before .before .before .before .before .before .loop .inv .2 .numbered)
+read-segment-requires c κs = (named-long (c .before .before .before .before .before .before .before .before .before .args .s) (c .before .before .before .before .before .before .before .before .before .args .text .now) (c .before .before .before .before .before .before .loop .i) _ (c .before .before .before .before .before .line-end .ensures .high) (c .before .before .before .is-named .ensures) (not-false _ (c .before .before .if1 .left)), c .before .before .before .before .before .line-end .ensures .high, c .before .before .before .before .before .before .loop .inv .2 .many, c .before .before .before .before .before .before .loop .inv .2 .few, c .before .before .before .before .before .before .loop .inv .4, c .before .before .before .before .before .before .loop .inv .2 .leaf-room, c .before .before .before .before .before .before .loop .inv .2 .numbered, named-no-header (c .before .before .before .before .before .before .before .before .before .args .s) (c .before .before .before .before .before .before .before .before .before .args .text .now) (c .before .before .before .before .before .before .loop .i) (c .before .before .before .before .before .line-end .result) (c .before .before .before .is-named .ensures) (not-false _ (c .before .before .if1 .left)))
 
 same-length-2 : tie.Need-same-length-2 Inv-loop μ-loop
 same-length-2 c = search needs

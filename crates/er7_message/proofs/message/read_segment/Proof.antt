@@ -18,7 +18,7 @@ same-length : tie.Need-same-length
 same-length c = search needs
 
 returns-2 : tie.Need-returns-2
-returns-2 c = segment-too-many _ _ _ _ _ _ _ _ (omega arith) (c .before .before .before .read-behind .ensures) _ (omega arith)
+returns-2 c = segment-too-many _ _ _ _ _ _ _ _ (c .before .before .before .before .before .before .before .before .pre .7) (c .before .before .before .read-behind .ensures) _ (omega arith)
 
 shared-slice-read-a : tie.Need-shared-slice-read-a
 shared-slice-read-a c = search needs
@@ -54,7 +54,7 @@ same-length-2 : tie.Need-same-length-2
 same-length-2 c = search needs
 
 returns-3 : tie.Need-returns-3
-returns-3 c = segment-fits _ _ _ _ _ _ _ _ (omega arith) (c .before .before .before .before .before .before .before .before .before .before .read-behind .ensures) (omega arith) (omega arith) (omega arith) (omega arith) (c .before .before .occurrence .ensures) (c .put-segment .ensures)
+returns-3 c = segment-fits _ _ _ _ _ _ _ _ (c .before .before .before .before .before .before .before .before .before .before .before .before .before .before .before .pre .7) (c .before .before .before .before .before .before .before .before .before .before .read-behind .ensures) (omega arith) (omega arith) (omega arith) (omega arith) (c .before .before .occurrence .ensures) (c .put-segment .ensures)
 
 pub read-segment-spec : {M : Type 1} → statement M
 read-segment-spec =

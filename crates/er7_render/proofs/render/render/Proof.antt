@@ -7,10 +7,10 @@ use Rattle.er7_render.specs.Inner.{segmentText}
 use Rattle.er7_render.proofs.Laws.{Joining, joining-start, joining-more, in-tables, render-room, render-end}
 
 abbrev Inv-loop : tie.InvT-loop
-Inv-loop segs cells store counts out₀ at₀ k₀ out at k = Joining (segmentText (counts .separators) (counts .«last_cr») segs cells store (counts .segments)) 0 (counts .segments) out₀ 0 k out at
+Inv-loop segs cells store layout out₀ at₀ k₀ out at k = Joining (segmentText (layout .separators) (layout .«last_cr») segs cells store (layout .segments)) 0 (layout .segments) out₀ 0 k out at
 
 abbrev μ-loop : tie.MeasureT-loop
-μ-loop segs cells store counts out₀ at₀ k₀ out at k = counts .segments - k
+μ-loop segs cells store layout out₀ at₀ k₀ out at k = layout .segments - k
 
 loop-holds : tie.Need-loop-holds Inv-loop μ-loop
 loop-holds c = joining-start _ _ _ _ _ (omega arith) (omega arith)

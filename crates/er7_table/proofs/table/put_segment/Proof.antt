@@ -62,20 +62,11 @@ mul-segs-6 c = search needs
 slice-write-segs-6 : tie.Need-slice-write-segs-6
 slice-write-segs-6 c = simp length-set (omega arith)
 
-add-segs-7 : tie.Need-add-segs-7
-add-segs-7 c = search needs
-
-mul-segs-7 : tie.Need-mul-segs-7
-mul-segs-7 c = search needs
-
-slice-write-segs-7 : tie.Need-slice-write-segs-7
-slice-write-segs-7 c = simp length-set (omega arith)
-
 same-length : tie.Need-same-length
 same-length c = search needs
 
 returns : tie.Need-returns
-returns c = segment-put _ _ _ _ _ _ _ _ _ (omega arith)
+returns c = segment-put _ _ _ _ _ _ _ _ (omega arith)
 
 pub put-segment-spec : {M : Type 1} → statement M
 put-segment-spec =
@@ -100,8 +91,5 @@ put-segment-spec =
     add-segs-6
     mul-segs-6
     slice-write-segs-6
-    add-segs-7
-    mul-segs-7
-    slice-write-segs-7
     same-length
     returns)

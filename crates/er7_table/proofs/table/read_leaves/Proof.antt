@@ -4,12 +4,13 @@ use borrow.Author.Needs.{needs}
 use Prim.Native.Nat.{_-_}
 use native.Mathlib.Omega.{arith}
 use Rattle.er7_table.proofs.Reading.{Going, going-start, going-full, going-last, going-next}
+use Rattle.refusal.specs.Limits.{LEAVES_MAX}
 
 abbrev Inv-loop : tie.InvT-loop
 Inv-loop text from s n0 cells₀ i₀ n₀ p₀ cells i n p = Going s text from p₀ n0 cells₀ i n p cells
 
 abbrev μ-loop : tie.MeasureT-loop
-μ-loop text from s n0 cells₀ i₀ n₀ p₀ cells i n p = 4096 - n
+μ-loop text from s n0 cells₀ i₀ n₀ p₀ cells i n p = LEAVES_MAX - n
 
 loop-holds : tie.Need-loop-holds Inv-loop μ-loop
 loop-holds c = going-start _ _ _ _ _ _ (omega arith) (omega arith) (omega arith) (c .before .before .pre .4)

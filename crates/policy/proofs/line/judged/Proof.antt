@@ -16,24 +16,24 @@ sub-if1-2 c = search needs
 returns : tie.Need-returns
 returns c = judged-long _ _ _ _ _ (omega arith) (omega arith) (c .if1 .taken)
 
-sub-head-of : tie.Need-sub-head-of
-sub-head-of c = search needs
+sub-line-kind : tie.Need-sub-line-kind
+sub-line-kind c = search needs
 
-part-head-of-start : tie.Need-part-head-of-start
-part-head-of-start c = search needs
+part-line-kind-start : tie.Need-part-line-kind-start
+part-line-kind-start c = search needs
 
-part-head-of-end : tie.Need-part-head-of-end
-part-head-of-end c = search needs
+part-line-kind-end : tie.Need-part-line-kind-end
+part-line-kind-end c = search needs
 
-head-of-requires : tie.Need-head-of-requires
-head-of-requires c κs = search needs
+line-kind-requires : tie.Need-line-kind-requires
+line-kind-requires c κs = search needs
 
-says-requires : tie.Need-says-requires
-says-requires c κs = search needs
+read-directive-requires : tie.Need-read-directive-requires
+read-directive-requires c κs = search needs
 
 returns-2 : tie.Need-returns-2
 unfolding between
-returns-2 c = judged-short (c .before .before .before .before .before .args .text .now) (c .before .before .before .before .before .args .i) (c .before .before .before .before .before .args .m) (c .before .before .before .before .before .args .k) (c .before .before .before .before .before .args .e) (omega arith) (omega arith) _ (c .before .before .before .if1 .left) (c .before .head-of .ensures) (c .says .ensures)
+returns-2 c = judged-short (c .before .before .before .before .before .args .text .now) (c .before .before .before .before .before .args .i) (c .before .before .before .before .before .args .m) (c .before .before .before .before .before .args .k) (c .before .before .before .before .before .args .e) (omega arith) (omega arith) _ (c .before .before .before .if1 .left) (c .before .line-kind .ensures) (c .read-directive .ensures)
 
 pub judged-spec : {M : Type 1} → statement M
 judged-spec =
@@ -42,9 +42,9 @@ judged-spec =
     sub-if1
     sub-if1-2
     returns
-    sub-head-of
-    part-head-of-start
-    part-head-of-end
-    head-of-requires
-    says-requires
+    sub-line-kind
+    part-line-kind-start
+    part-line-kind-end
+    line-kind-requires
+    read-directive-requires
     returns-2)

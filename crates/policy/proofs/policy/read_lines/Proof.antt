@@ -28,8 +28,8 @@ loop-holds c = rw (c .first-defaults .ensures) (reading-start _ _)
 run-end-requires : tie.Need-run-end-requires Inv-loop μ-loop
 run-end-requires c κs = search needs
 
-says-line-requires : tie.Need-says-line-requires Inv-loop μ-loop
-says-line-requires c κs = search needs
+read-line-requires : tie.Need-read-line-requires Inv-loop μ-loop
+read-line-requires c κs = search needs
 
 fault-of-requires : tie.Need-fault-of-requires Inv-loop μ-loop
 fault-of-requires c κs = search needs
@@ -44,7 +44,7 @@ refuse-requires : tie.Need-refuse-requires Inv-loop μ-loop
 refuse-requires c κs = search needs
 
 returns : tie.Need-returns Inv-loop μ-loop
-returns c = reading-stop (c .before .before .before .before .before .before .before .before .loop .inv) (omega arith) _ (c .before .before .before .before .before .before .run-end .ensures) (c .before .before .before .before .before .says-line .ensures) (sym (c .before .before .before .before .fault-of .ensures) ∙ c .before .before .refusal .given .1) (c .refuse .ensures)
+returns c = reading-stop (c .before .before .before .before .before .before .before .before .loop .inv) (omega arith) _ (c .before .before .before .before .before .before .run-end .ensures) (c .before .before .before .before .before .read-line .ensures) (sym (c .before .before .before .before .fault-of .ensures) ∙ c .before .before .refusal .given .1) (c .refuse .ensures)
 
 place-requires : tie.Need-place-requires Inv-loop μ-loop
 place-requires c κs = search needs
@@ -70,8 +70,8 @@ rules-in-requires c κs = search needs
 add-count : tie.Need-add-count Inv-loop μ-loop
 add-count c = search needs
 
-with-saying-requires : tie.Need-with-saying-requires Inv-loop μ-loop
-with-saying-requires c κs = search needs
+with-line-requires : tie.Need-with-line-requires Inv-loop μ-loop
+with-line-requires c κs = search needs
 
 next-line-requires : tie.Need-next-line-requires Inv-loop μ-loop
 next-line-requires c κs = search needs
@@ -83,7 +83,7 @@ loop-less : tie.Need-loop-less Inv-loop μ-loop
 loop-less c = let l = line-further _ _ _ _ (omega arith) (c .before .before .before .before .before .before .before .before .before .before .run-end .ensures .low) (c .next-line .ensures) in omega arith
 
 loop-again : tie.Need-loop-again Inv-loop μ-loop
-loop-again c = reading-more (c .before .before .before .before .before .before .before .before .before .before .before .before .loop .inv) (omega arith) _ (c .before .before .before .before .before .before .before .before .before .before .run-end .ensures) (c .next-line .ensures) (c .before .before .before .before .before .before .before .before .before .says-line .ensures) _ (c .before .before .before .before .before .before .before .before .fault-of .ensures) (c .before .before .before .before .before .before .enum-told .given .1) (c .before .before .before .before .before .place .ensures .0) (c .before .before .before .rule-or .ensures) (c .before .before .rules-in .ensures .0) (c .before .with-saying .ensures)
+loop-again c = reading-more (c .before .before .before .before .before .before .before .before .before .before .before .before .loop .inv) (omega arith) _ (c .before .before .before .before .before .before .before .before .before .before .run-end .ensures) (c .next-line .ensures) (c .before .before .before .before .before .before .before .before .before .read-line .ensures) _ (c .before .before .before .before .before .before .before .before .fault-of .ensures) (c .before .before .before .before .before .before .enum-told .given .1) (c .before .before .before .before .before .place .ensures .0) (c .before .before .before .rule-or .ensures) (c .before .before .rules-in .ensures .0) (c .before .with-line .ensures)
 
 answer-requires : tie.Need-answer-requires Inv-loop μ-loop
 answer-requires c κs = search needs
@@ -101,7 +101,7 @@ read-lines-spec =
     first-defaults-requires
     loop-holds
     run-end-requires
-    says-line-requires
+    read-line-requires
     fault-of-requires
     enum-told
     enum-known-refusal
@@ -115,7 +115,7 @@ read-lines-spec =
     array-set-from-rules
     rules-in-requires
     add-count
-    with-saying-requires
+    with-line-requires
     next-line-requires
     add-line
     loop-less

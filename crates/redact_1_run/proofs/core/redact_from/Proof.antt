@@ -13,14 +13,14 @@ run-turns-requires c κs = (c .before .before .before .before .before .before .b
 enum-known-done : tie.Need-enum-known-done
 enum-known-done c = search needs
 
-add-less : tie.Need-add-less
-add-less c = search (needs, end-most _ _ _ (c .before .before .before .before .before .before .before .before .before .before .before .before .before .before .before .before .before .before .before .before .before .before .pre .1 .loaded) (c .before .before .before .before .before .before .before .before .before .before .before .before .before .before .before .load .ensures) _ _ _ _ _ _ _ _ _ _ (c .before .before .before .before .before .before .before .before .run-turns .ensures) (c .before .before .done .given .1), c .before .before .before .before .before .before .before .before .before .before .before .before .before .before .before .load .ensures .end, message-room (c .before .before .before .before .before .before .before .before .before .before .before .before .before .before .before .before .before .before .before .before .before .before .pre .1))
+add-saturating-sub : tie.Need-add-saturating-sub
+add-saturating-sub c = search (needs, end-most _ _ _ (c .before .before .before .before .before .before .before .before .before .before .before .before .before .before .before .before .before .before .before .before .before .before .pre .1 .loaded) (c .before .before .before .before .before .before .before .before .before .before .before .before .before .before .before .load .ensures) _ _ _ _ _ _ _ _ _ _ (c .before .before .before .before .before .before .before .before .run-turns .ensures) (c .before .before .done .given .1), c .before .before .before .before .before .before .before .before .before .before .before .before .before .before .before .load .ensures .end, message-room (c .before .before .before .before .before .before .before .before .before .before .before .before .before .before .before .before .before .before .before .before .before .before .pre .1))
 
-less-requires : tie.Need-less-requires
-less-requires c κs = search needs
+saturating-sub-requires : tie.Need-saturating-sub-requires
+saturating-sub-requires c κs = search needs
 
 print-text-requires : tie.Need-print-text-requires
-print-text-requires c κs = end-printable _ _ _ (c .before .before .before .before .before .before .before .before .before .before .before .before .before .before .before .before .before .before .before .before .before .before .before .before .before .before .pre .1 .loaded) (c .before .before .before .before .before .before .before .before .before .before .before .before .before .before .before .before .before .before .before .load .ensures) _ _ _ _ _ _ _ _ _ _ (c .before .before .before .before .before .before .before .before .before .before .before .before .run-turns .ensures) (c .before .before .before .before .before .before .done .given .1) (c .before .before .before .less .ensures)
+print-text-requires c κs = end-printable _ _ _ (c .before .before .before .before .before .before .before .before .before .before .before .before .before .before .before .before .before .before .before .before .before .before .before .before .before .before .pre .1 .loaded) (c .before .before .before .before .before .before .before .before .before .before .before .before .before .before .before .before .before .before .before .load .ensures) _ _ _ _ _ _ _ _ _ _ (c .before .before .before .before .before .before .before .before .before .before .before .before .run-turns .ensures) (c .before .before .before .before .before .before .done .given .1) (c .before .before .before .saturating-sub .ensures)
 
 enum-known-done-2 : tie.Need-enum-known-done-2
 enum-known-done-2 c = search needs
@@ -53,8 +53,8 @@ redact-from-spec =
     load-requires
     run-turns-requires
     enum-known-done
-    add-less
-    less-requires
+    add-saturating-sub
+    saturating-sub-requires
     print-text-requires
     enum-known-done-2
     same-length

@@ -1,7 +1,7 @@
 use borrow.Author.Needs.{needs}
 use Rattle.redact_1_run.proofs.run.next_turn.Statement.{statement}
 use Rattle.redact_1_run.proofs.run.next_turn.Tie as tie
-use Rattle.redact_1_run.proofs.Rooms.{poised-going, poised-room, room-ahead, room-ordered, room-next, turn-made, turn-refused, next-stopped}
+use Rattle.redact_1_run.proofs.Rooms.{turn-ready-going, turn-ready-room, room-ahead, room-ordered, room-next, turn-made, turn-refused, next-stopped}
 use mathlib.Core.Path.{ap}
 use Rattle.redact_5_act.specs.State.{afterStep}
 
@@ -9,13 +9,13 @@ enum-known-done : tie.Need-enum-known-done
 enum-known-done c = search needs
 
 with-room-requires : tie.Need-with-room-requires
-with-room-requires c κs = poised-room (poised-going _ _ _ _ _ (c .before .before .before .before .before .before .before .before .before .pre .2) (c .before .before .before .before .done .given .1))
+with-room-requires c κs = turn-ready-room (turn-ready-going _ _ _ _ _ (c .before .before .before .before .before .before .before .before .before .pre .2) (c .before .before .before .before .done .given .1))
 
 write-tally-requires : tie.Need-write-tally-requires
 write-tally-requires c κs = search needs
 
 take-turn-requires : tie.Need-take-turn-requires
-take-turn-requires c κs = (c .before .before .before .before .before .before .before .before .before .before .before .before .before .before .before .before .before .before .before .before .before .pre .0, c .before .before .before .before .before .before .before .before .before .before .before .before .before .before .before .before .before .before .before .before .before .pre .1 .named, c .before .before .before .before .before .before .before .before .before .before .before .before .before .before .before .before .before .before .before .before .before .pre .1 .segmented, room-ordered (c .before .before .before .before .before .before .before .before .before .before .before .before .before .before .before .before .before .before .before .before .before .pre .1 .segmented) (c .before .before .before .before .before .before .before .before .before .before .before .with-room .ensures) (poised-going _ _ _ _ _ (c .before .before .before .before .before .before .before .before .before .before .before .before .before .before .before .before .before .before .before .before .before .pre .2) (c .before .before .before .before .before .before .before .before .before .before .before .before .before .before .before .before .done .given .1) .ordered), rw (c .before .before .before .before .before .before .before .write-tally .ensures) (room-ahead _ (poised-going _ _ _ _ _ (c .before .before .before .before .before .before .before .before .before .before .before .before .before .before .before .before .before .before .before .before .before .pre .2) (c .before .before .before .before .before .before .before .before .before .before .before .before .before .before .before .before .done .given .1)) (c .before .before .before .before .before .before .before .before .before .before .before .before .before .before .before .before .before .before .before .before .before .pre .1 .leaves) (c .before .before .before .before .before .before .before .before .before .before .before .with-room .ensures)))
+take-turn-requires c κs = (c .before .before .before .before .before .before .before .before .before .before .before .before .before .before .before .before .before .before .before .before .before .pre .0, c .before .before .before .before .before .before .before .before .before .before .before .before .before .before .before .before .before .before .before .before .before .pre .1 .named, c .before .before .before .before .before .before .before .before .before .before .before .before .before .before .before .before .before .before .before .before .before .pre .1 .segmented, room-ordered (c .before .before .before .before .before .before .before .before .before .before .before .before .before .before .before .before .before .before .before .before .before .pre .1 .segmented) (c .before .before .before .before .before .before .before .before .before .before .before .with-room .ensures) (turn-ready-going _ _ _ _ _ (c .before .before .before .before .before .before .before .before .before .before .before .before .before .before .before .before .before .before .before .before .before .pre .2) (c .before .before .before .before .before .before .before .before .before .before .before .before .before .before .before .before .done .given .1) .ordered), rw (c .before .before .before .before .before .before .before .write-tally .ensures) (room-ahead _ (turn-ready-going _ _ _ _ _ (c .before .before .before .before .before .before .before .before .before .before .before .before .before .before .before .before .before .before .before .before .before .pre .2) (c .before .before .before .before .before .before .before .before .before .before .before .before .before .before .before .before .done .given .1)) (c .before .before .before .before .before .before .before .before .before .before .before .before .before .before .before .before .before .before .before .before .before .pre .1 .leaves) (c .before .before .before .before .before .before .before .before .before .before .before .with-room .ensures)))
 
 enum-told : tie.Need-enum-told
 enum-told c = search needs
@@ -36,7 +36,7 @@ same-length-2 : tie.Need-same-length-2
 same-length-2 c = search needs
 
 returns : tie.Need-returns
-returns c = room-next _ _ _ _ _ (c .before .before .before .before .before .before .before .before .before .before .before .before .before .before .before .before .before .before .before .before .with-room .ensures) (poised-going _ _ _ _ _ (c .before .before .before .before .before .before .before .before .before .before .before .before .before .before .before .before .before .before .before .before .before .before .before .before .before .before .before .before .before .before .pre .2) (c .before .before .before .before .before .before .before .before .before .before .before .before .before .before .before .before .before .before .before .before .before .before .before .before .before .done .given .1) .held) _ _ (c .before .before .before .before .before .before .before .before .before .before .before .before .before .before .before .before .before .before .before .before .before .before .before .before .before .before .before .before .before .before .pre .1 .segmented) _ (c .before .before .before .before .before .before .before .before .before .before .before .before .before .before .before .before .before .before .before .before .before .before .before .before .before .done .given .1) (turn-made (c .before .before .before .before .before .before .before .before .before .before .before .before .before .before .before .before .write-tally .ensures) (c .before .before .before .before .before .before .before .before .take-turn .ensures) (ap (afterStep _) (c .before .before .enum-told .given .1)) (c .read-tally .ensures))
+returns c = room-next _ _ _ _ _ (c .before .before .before .before .before .before .before .before .before .before .before .before .before .before .before .before .before .before .before .before .with-room .ensures) (turn-ready-going _ _ _ _ _ (c .before .before .before .before .before .before .before .before .before .before .before .before .before .before .before .before .before .before .before .before .before .before .before .before .before .before .before .before .before .before .pre .2) (c .before .before .before .before .before .before .before .before .before .before .before .before .before .before .before .before .before .before .before .before .before .before .before .before .before .done .given .1) .held) _ _ (c .before .before .before .before .before .before .before .before .before .before .before .before .before .before .before .before .before .before .before .before .before .before .before .before .before .before .before .before .before .before .pre .1 .segmented) _ (c .before .before .before .before .before .before .before .before .before .before .before .before .before .before .before .before .before .before .before .before .before .before .before .before .before .done .given .1) (turn-made (c .before .before .before .before .before .before .before .before .before .before .before .before .before .before .before .before .write-tally .ensures) (c .before .before .before .before .before .before .before .before .take-turn .ensures) (ap (afterStep _) (c .before .before .enum-told .given .1)) (c .read-tally .ensures))
 
 same-length-3 : tie.Need-same-length-3
 same-length-3 c = search needs
@@ -45,7 +45,7 @@ same-length-4 : tie.Need-same-length-4
 same-length-4 c = search needs
 
 returns-2 : tie.Need-returns-2
-returns-2 c = room-next _ _ _ _ _ (c .before .before .before .before .before .before .before .before .before .before .before .before .before .before .before .before .before .before .before .with-room .ensures) (poised-going _ _ _ _ _ (c .before .before .before .before .before .before .before .before .before .before .before .before .before .before .before .before .before .before .before .before .before .before .before .before .before .before .before .before .before .pre .2) (c .before .before .before .before .before .before .before .before .before .before .before .before .before .before .before .before .before .before .before .before .before .before .before .before .done .given .1) .held) _ _ (c .before .before .before .before .before .before .before .before .before .before .before .before .before .before .before .before .before .before .before .before .before .before .before .before .before .before .before .before .before .pre .1 .segmented) _ (c .before .before .before .before .before .before .before .before .before .before .before .before .before .before .before .before .before .before .before .before .before .before .before .before .done .given .1) (turn-refused (c .before .before .before .before .before .before .before .before .before .before .before .before .before .before .before .write-tally .ensures) (c .before .before .before .before .before .before .before .take-turn .ensures) (ap (afterStep _) (c .before .refusal .given .1)))
+returns-2 c = room-next _ _ _ _ _ (c .before .before .before .before .before .before .before .before .before .before .before .before .before .before .before .before .before .before .before .with-room .ensures) (turn-ready-going _ _ _ _ _ (c .before .before .before .before .before .before .before .before .before .before .before .before .before .before .before .before .before .before .before .before .before .before .before .before .before .before .before .before .before .pre .2) (c .before .before .before .before .before .before .before .before .before .before .before .before .before .before .before .before .before .before .before .before .before .before .before .before .done .given .1) .held) _ _ (c .before .before .before .before .before .before .before .before .before .before .before .before .before .before .before .before .before .before .before .before .before .before .before .before .before .before .before .before .before .pre .1 .segmented) _ (c .before .before .before .before .before .before .before .before .before .before .before .before .before .before .before .before .before .before .before .before .before .before .before .before .done .given .1) (turn-refused (c .before .before .before .before .before .before .before .before .before .before .before .before .before .before .before .write-tally .ensures) (c .before .before .before .before .before .before .before .take-turn .ensures) (ap (afterStep _) (c .before .refusal .given .1)))
 
 returns-3 : tie.Need-returns-3
 returns-3 c = next-stopped (c .before .done2 .given .1)

@@ -5,7 +5,7 @@ use native.Mathlib.Omega.{arith}
 use Prim.Native.Nat.{_+_, _-_}
 use Rattle.redact_4_leaf.specs.State.{buffers}
 use Rattle.redact_1_run.proofs.Steps.{row-inside}
-use Rattle.redact_1_run.proofs.Course.{TurnsTo, turns-start, turns-poised, turns-more, turns-done, turn-held, job-held}
+use Rattle.redact_1_run.proofs.Course.{TurnsTo, turns-start, turns-turn-ready, turns-more, turns-done, turn-held, job-held}
 use mathlib.Core.Path.{_≡_, refl}
 use lib.ListN.{length}
 
@@ -37,7 +37,7 @@ aim-of-requires : tie.Need-aim-of-requires Inv-loop μ-loop
 aim-of-requires c κs = turn-held (c .before .before .before .before .before .before .before .before .before .pre .0) _ (c .before .before .rule-row .ensures) _ _ _ (c .turn-at .ensures)
 
 next-turn-requires : tie.Need-next-turn-requires Inv-loop μ-loop
-next-turn-requires c κs = (job-held (c .before .before .before .before .before .before .before .before .before .before .before .before .before .before .before .before .pre .2) _ _ (turn-held (c .before .before .before .before .before .before .before .before .before .before .before .before .before .before .before .before .pre .0) _ (c .before .before .before .before .before .before .before .before .before .rule-row .ensures) _ _ _ (c .before .before .before .before .before .before .before .turn-at .ensures)) (c .before .before .before .before .before .before .aim-of .ensures), c .before .before .before .before .before .before .before .before .before .before .before .before .before .before .before .before .pre .2, turns-poised _ _ _ _ (c .before .before .before .before .before .before .before .before .before .before .before .before .before .before .before .before .pre .0) _ _ _ _ _ (c .before .before .before .before .before .before .before .before .before .before .before .loop .inv .0) (c .before .before .before .before .before .before .before .before .before .before .before .before .before .before .before .before .pre .2) (c .before .before .before .before .before .before .before .before .before .before .before .before .before .before .before .before .pre .3))
+next-turn-requires c κs = (job-held (c .before .before .before .before .before .before .before .before .before .before .before .before .before .before .before .before .pre .2) _ _ (turn-held (c .before .before .before .before .before .before .before .before .before .before .before .before .before .before .before .before .pre .0) _ (c .before .before .before .before .before .before .before .before .before .rule-row .ensures) _ _ _ (c .before .before .before .before .before .before .before .turn-at .ensures)) (c .before .before .before .before .before .before .aim-of .ensures), c .before .before .before .before .before .before .before .before .before .before .before .before .before .before .before .before .pre .2, turns-turn-ready _ _ _ _ (c .before .before .before .before .before .before .before .before .before .before .before .before .before .before .before .before .pre .0) _ _ _ _ _ (c .before .before .before .before .before .before .before .before .before .before .before .loop .inv .0) (c .before .before .before .before .before .before .before .before .before .before .before .before .before .before .before .before .pre .2) (c .before .before .before .before .before .before .before .before .before .before .before .before .before .before .before .before .pre .3))
 
 add-k : tie.Need-add-k Inv-loop μ-loop
 add-k c = search (needs, c .before .before .before .before .before .before .before .before .before .before .before .before .before .before .before .loop-test, c .before .before .before .before .before .before .before .before .before .before .before .before .before .before .before .before .before .before .before .before .before .pre .0 .few)

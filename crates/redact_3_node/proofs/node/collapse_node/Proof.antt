@@ -3,7 +3,7 @@ use Rattle.redact_3_node.proofs.node.collapse_node.Statement.{statement
 use Rattle.redact_3_node.proofs.node.collapse_node.Tie as tie
 use mathlib.Core.Path.{refl, ap}
 use Rattle.er7_redact.specs.Policy.{asRule}
-use Rattle.redact_3_node.proofs.Collapses.{ready-node, ready-legible, ready-learnt}
+use Rattle.redact_3_node.proofs.Collapses.{ready-node, ready-learnable, ready-learnt}
 use Rattle.redact_3_node.proofs.NodeVisits.{node-full, node-done}
 use Rattle.redact_5_act.specs.State.{afterStep}
 
@@ -14,7 +14,7 @@ node-end-requires : tie.Need-node-end-requires
 node-end-requires c κs = search needs
 
 learn-all-requires : tie.Need-learn-all-requires
-learn-all-requires c κs = (ready-legible (ready-node _ (c .before .before .before .before .before .before .before .before .before .before .before .before .pre .4) (c .before .before .before .before .before .node-end .ensures)), c .before .before .before .before .before .before .before .before .before .before .before .before .pre .5 .good)
+learn-all-requires c κs = (ready-learnable (ready-node _ (c .before .before .before .before .before .before .before .before .before .before .before .before .pre .4) (c .before .before .before .before .before .node-end .ensures)), c .before .before .before .before .before .before .before .before .before .before .before .before .pre .5 .good)
 
 enum-told : tie.Need-enum-told
 enum-told c = search needs

@@ -3,7 +3,7 @@ use Rattle.redact_3_node.proofs.node.learn_all.Statement.{statement}
 use Rattle.redact_3_node.proofs.node.learn_all.Tie as tie
 use native.Mathlib.Omega.{arith}
 use Prim.Native.Nat.{_-_}
-use Rattle.redact_3_node.proofs.Lessons.{LearntBefore, before-start, before-good, before-more, before-stop, before-end, all-legible}
+use Rattle.redact_3_node.proofs.Lessons.{LearntBefore, before-start, before-good, before-more, before-stop, before-end, all-learnable}
 use mathlib.Core.Path.{ap}
 use Rattle.redact_5_act.specs.State.{counted, afterStep}
 
@@ -17,7 +17,7 @@ loop-holds : tie.Need-loop-holds Inv-loop μ-loop
 loop-holds c = before-start (c .before .pre .0 .order)
 
 learn-live-requires : tie.Need-learn-live-requires Inv-loop μ-loop
-learn-live-requires c κs = all-legible (c .before .before .before .before .before .before .pre .0) (omega (arith, c .before .before .before .before .loop .inv .low)) (omega (arith, c .before .before .before .before .loop .inv .low)) (before-good (c .before .before .before .before .loop .inv) (c .before .before .before .before .before .before .pre .1))
+learn-live-requires c κs = all-learnable (c .before .before .before .before .before .before .pre .0) (omega (arith, c .before .before .before .before .loop .inv .low)) (omega (arith, c .before .before .before .before .loop .inv .low)) (before-good (c .before .before .before .before .loop .inv) (c .before .before .before .before .before .before .pre .1))
 
 enum-told : tie.Need-enum-told Inv-loop μ-loop
 enum-told c = search needs

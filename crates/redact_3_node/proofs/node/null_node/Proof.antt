@@ -4,7 +4,7 @@ use Rattle.redact_3_node.proofs.node.null_node.Tie as tie
 use native.Mathlib.Omega.{arith}
 use mathlib.Core.Path.{sym, _∙_}
 use Rattle.er7_table.specs.Table.{cell}
-use Rattle.redact_3_node.proofs.Collapses.{already-is, went-is, node-stays, node-becomes, rest-ready, rest-fits, ready-legible}
+use Rattle.redact_3_node.proofs.Collapses.{already-is, went-is, node-stays, node-becomes, rest-ready, rest-fits, ready-learnable}
 
 mul-row : tie.Need-mul-row
 mul-row c = search needs
@@ -29,7 +29,7 @@ slice-read-len c = search needs
 
 add-stop : tie.Need-add-stop
 unfolding cell
-add-stop c = omega (arith, ready-legible (c .before .before .before .before .before .pre .1) .inside (c .before .before .before .before .before .args .at .index) (c .before .before .before .before .before .pre .1 .inside))
+add-stop c = omega (arith, ready-learnable (c .before .before .before .before .before .pre .1) .inside (c .before .before .before .before .before .args .at .index) (c .before .before .before .before .before .pre .1 .inside))
 
 add-leaves-size : tie.Need-add-leaves-size
 add-leaves-size c = search needs
@@ -45,7 +45,7 @@ part-is-null-start c = search needs
 
 part-is-null-end : tie.Need-part-is-null-end
 unfolding cell
-part-is-null-end c = omega (arith, ready-legible (c .before .before .before .before .before .before .before .before .before .pre .1) .inside (c .before .before .before .before .before .before .before .before .before .args .at .index) (c .before .before .before .before .before .before .before .before .before .pre .1 .inside))
+part-is-null-end c = omega (arith, ready-learnable (c .before .before .before .before .before .before .before .before .before .pre .1) .inside (c .before .before .before .before .before .before .before .before .before .args .at .index) (c .before .before .before .before .before .before .before .before .before .pre .1 .inside))
 
 is-null-requires : tie.Need-is-null-requires
 is-null-requires c κs = search needs
@@ -57,12 +57,12 @@ returns : tie.Need-returns
 unfolding cell
 returns c = node-stays (c .before .before .before .before .before .before .before .before .before .before .before .before .pre .1) _ _ (sym (already-is _ _ _ _ (c .before .before .before .before .before .leaves-size .ensures) (c .before .is-null .ensures)) ∙ c .if1 .taken)
 
-add-enter-null : tie.Need-add-enter-null
+add-put-null-change : tie.Need-add-put-null-change
 unfolding cell
-add-enter-null c = omega (arith, c .before .before .before .before .before .leaves-size .ensures, rest-fits (c .before .before .before .before .before .before .before .before .before .before .before .before .pre .1), ready-legible (c .before .before .before .before .before .before .before .before .before .before .before .before .pre .1) .inside (c .before .before .before .before .before .before .before .before .before .before .before .before .args .at .index) (c .before .before .before .before .before .before .before .before .before .before .before .before .pre .1 .inside))
+add-put-null-change c = omega (arith, c .before .before .before .before .before .leaves-size .ensures, rest-fits (c .before .before .before .before .before .before .before .before .before .before .before .before .pre .1), ready-learnable (c .before .before .before .before .before .before .before .before .before .before .before .before .pre .1) .inside (c .before .before .before .before .before .before .before .before .before .before .before .before .args .at .index) (c .before .before .before .before .before .before .before .before .before .before .before .before .pre .1 .inside))
 
-enter-null-requires : tie.Need-enter-null-requires
-enter-null-requires c κs = search needs
+put-null-change-requires : tie.Need-put-null-change-requires
+put-null-change-requires c κs = search needs
 
 same-length-2 : tie.Need-same-length-2
 same-length-2 c = search needs
@@ -72,7 +72,7 @@ same-length-3 c = search needs
 
 returns-2 : tie.Need-returns-2
 unfolding cell
-returns-2 c = node-becomes (c .before .before .before .before .before .before .before .before .before .before .before .before .before .before .before .before .before .before .before .before .before .pre .1) _ _ (sym (already-is _ _ _ _ (c .before .before .before .before .before .before .before .before .before .before .before .before .before .before .leaves-size .ensures) (c .before .before .before .before .before .before .before .before .before .before .is-null .ensures)) ∙ c .before .before .before .before .before .before .before .before .before .if1 .left) (went-is _ _ _ _ (c .before .before .before .before .before .before .before .before .before .before .before .before .before .before .leaves-size .ensures) (c .before .before .before .before .before .before .before .before .before .before .before .before .before .before .before .before .before .before .before .before .before .pre .1)) (c .before .before .before .before .enter-null .ensures)
+returns-2 c = node-becomes (c .before .before .before .before .before .before .before .before .before .before .before .before .before .before .before .before .before .before .before .before .before .pre .1) _ _ (sym (already-is _ _ _ _ (c .before .before .before .before .before .before .before .before .before .before .before .before .before .before .leaves-size .ensures) (c .before .before .before .before .before .before .before .before .before .before .is-null .ensures)) ∙ c .before .before .before .before .before .before .before .before .before .if1 .left) (went-is _ _ _ _ (c .before .before .before .before .before .before .before .before .before .before .before .before .before .before .leaves-size .ensures) (c .before .before .before .before .before .before .before .before .before .before .before .before .before .before .before .before .before .before .before .before .before .pre .1)) (c .before .before .before .before .put-null-change .ensures)
 
 pub null-node-spec : {M : Type 1} → statement M
 null-node-spec =
@@ -94,8 +94,8 @@ null-node-spec =
     is-null-requires
     same-length
     returns
-    add-enter-null
-    enter-null-requires
+    add-put-null-change
+    put-null-change-requires
     same-length-2
     same-length-3
     returns-2)

@@ -3,7 +3,7 @@ use Rattle.redact_4_leaf.proofs.leaf.act_on.Statement.{statement}
 use Rattle.redact_4_leaf.proofs.leaf.act_on.Tie as tie
 use native.Mathlib.Omega.{arith}
 use Rattle.er7_table.specs.Table.{cell}
-use Rattle.redact_4_leaf.specs.State.{textOf}
+use Rattle.redact_4_leaf.specs.State.{textIn}
 use Rattle.redact_4_leaf.proofs.Acting.{leaf-held, acted-stays, acted-countable, acted-becomes, acted-long}
 
 mul-row : tie.Need-mul-row
@@ -40,15 +40,15 @@ enum-told c = search needs
 enum-known-came : tie.Need-enum-known-came
 enum-known-came c = search needs
 
-enter-requires : tie.Need-enter-requires
+put-change-requires : tie.Need-put-change-requires
 unfolding cell
-enter-requires c κs = let g = c .before .before .before .before .before .before .before .before .before .before .before .before .before .before .before .before .before .pre .1 in (c .before .before .before .before .before .before .before .before .before .before .before .before .before .before .before .before .before .pre .0, omega (arith, g .good .rows, g .inside), acted-countable (c .before .before .before .before .before .before .before .read-tally .ensures) g (c .before .before .before .before .before .before .act .ensures) (c .before .before .before .before .came .given .1), c .before .before .before .before .before .before .before .before .before .before .before .before .before .before .before .before .before .pre .2)
+put-change-requires c κs = let g = c .before .before .before .before .before .before .before .before .before .before .before .before .before .before .before .before .before .pre .1 in (c .before .before .before .before .before .before .before .before .before .before .before .before .before .before .before .before .before .pre .0, omega (arith, g .good .rows, g .inside), acted-countable (c .before .before .before .before .before .before .before .read-tally .ensures) g (c .before .before .before .before .before .before .act .ensures) (c .before .before .before .before .came .given .1), c .before .before .before .before .before .before .before .before .before .before .before .before .before .before .before .before .before .pre .2)
 
 enum-told-2 : tie.Need-enum-told-2
 enum-told-2 c = search needs
 
 returns : tie.Need-returns
-unfolding cell textOf
+unfolding cell textIn
 returns c = acted-stays (c .before .before .before .read-tally .ensures) (c .before .before .before .before .before .before .before .before .before .before .before .before .before .pre .1) _ _ _ (c .before .before .act .ensures) (c .enum-told .given .1)
 
 same-length : tie.Need-same-length
@@ -58,11 +58,11 @@ same-length-2 : tie.Need-same-length-2
 same-length-2 c = search needs
 
 returns-2 : tie.Need-returns-2
-unfolding cell textOf
-returns-2 c = acted-becomes (c .before .before .before .before .before .before .before .before .before .before .before .before .read-tally .ensures) (c .before .before .before .before .before .before .before .before .before .before .before .before .before .before .before .before .before .before .before .before .before .before .pre .1) _ _ _ (c .before .before .before .before .before .before .before .before .before .before .before .act .ensures) (c .before .before .before .before .before .before .before .before .before .came .given .1) (c .before .before .before .before .enter .ensures)
+unfolding cell textIn
+returns-2 c = acted-becomes (c .before .before .before .before .before .before .before .before .before .before .before .before .read-tally .ensures) (c .before .before .before .before .before .before .before .before .before .before .before .before .before .before .before .before .before .before .before .before .before .before .pre .1) _ _ _ (c .before .before .before .before .before .before .before .before .before .before .before .act .ensures) (c .before .before .before .before .before .before .before .before .before .came .given .1) (c .before .before .before .before .put-change .ensures)
 
 returns-3 : tie.Need-returns-3
-unfolding cell textOf
+unfolding cell textIn
 returns-3 c = acted-long (c .before .before .before .read-tally .ensures) (c .before .before .before .before .before .before .before .before .before .before .before .before .before .pre .1) _ _ _ (c .before .before .act .ensures) (c .enum-told2 .given .1)
 
 pub act-on-spec : {M : Type 1} → statement M
@@ -80,7 +80,7 @@ act-on-spec =
     act-requires
     enum-told
     enum-known-came
-    enter-requires
+    put-change-requires
     enum-told-2
     returns
     same-length

@@ -4,7 +4,7 @@ use Rattle.redact_4_leaf.proofs.learn.learn_at.Tie as tie
 use native.Mathlib.Omega.{arith}
 use Rattle.redact_4_leaf.proofs.Learnt.{learning-off, learning-kept, learning-full, readable-by}
 use Rattle.er7_table.specs.Table.{cell}
-use Rattle.redact_4_leaf.specs.State.{textOf}
+use Rattle.redact_4_leaf.specs.State.{textIn}
 use borrow.Author.Tests.{not-true, not-false}
 
 returns : tie.Need-returns
@@ -62,11 +62,11 @@ enum-told : tie.Need-enum-told
 enum-told c = search needs
 
 returns-2 : tie.Need-returns-2
-unfolding cell textOf
+unfolding cell textIn
 returns-2 c = λ text q h. learning-kept _ _ _ _ _ (c .before .before .before .before .before .learn-leaf .ensures) _ (not-false _ (c .before .before .before .before .before .before .before .before .before .before .before .before .before .before .if1 .left)) text (c .before .before .before .before .before .before .before .before .before .before .before .before .read-tally .ensures) (c .before .before .before .count .given .1) q h (c .write-tally .ensures)
 
 returns-3 : tie.Need-returns-3
-unfolding cell textOf
+unfolding cell textIn
 returns-3 c = λ text q h. learning-full _ _ _ _ _ (c .before .before .learn-leaf .ensures) _ (not-false _ (c .before .before .before .before .before .before .before .before .before .before .before .if1 .left)) text (c .before .before .before .before .before .before .before .before .before .read-tally .ensures) (c .enum-told .given .1)
 
 pub learn-at-spec : {M : Type 1} → statement M

@@ -3,7 +3,7 @@ use Rattle.redact_4_leaf.proofs.visit.sweep_leaf.Statement.{statement}
 use Rattle.redact_4_leaf.proofs.visit.sweep_leaf.Tie as tie
 use native.Mathlib.Omega.{arith}
 use Rattle.er7_table.specs.Table.{cell}
-use Rattle.redact_4_leaf.specs.State.{textOf}
+use Rattle.redact_4_leaf.specs.State.{textIn}
 use Rattle.redact_4_leaf.proofs.Rules.{ready-readable}
 use Rattle.redact_4_leaf.proofs.Unnamed.{unnamed-none, unnamed-acted, swept-beside, swept-none, swept-some, swept-held}
 use Rattle.redact_4_leaf.proofs.Learnt.{readable-by}
@@ -51,7 +51,7 @@ unfolding cell
 for-sweep-requires c κs = let g = readable-by (c .before .before .before .before .before .before .before .read-tally .ensures) (ready-readable (c .before .before .before .before .before .before .before .before .before .before .before .before .pre .1) (c .before .before .before .before .before .before .before .before .before .before .before .before .pre .0 .good)) in (g .good, omega (arith, g .short))
 
 returns : tie.Need-returns
-unfolding cell textOf
+unfolding cell textIn
 returns c = λ named u. unnamed-none _ _ _ named _ _ _ _ _ _ _ (c .before .before .before .before .before .before .before .before .before .before .before .before .before .before .before .pre .1) (c .before .before .before .before .before .before .before .before .before .before .before .before .before .before .before .pre .3) (c .before .before .before .before .before .before .before .before .before .before .before .before .before .before .before .pre .0) (swept-none _ _ _ (c .before .before .before .before .before .before .before .before .before .before .read-tally .ensures) _ _ _ (c .before .before .for-sweep .ensures) (c .if1 .taken)) (swept-beside (c .before .before .before .before .before .before .before .before .before .before .read-tally .ensures) (c .before .before .for-sweep .ensures))
 
 action-at-requires : tie.Need-action-at-requires
@@ -68,7 +68,7 @@ same-length-2 : tie.Need-same-length-2
 same-length-2 c = search needs
 
 returns-2 : tie.Need-returns-2
-unfolding cell textOf
+unfolding cell textIn
 returns-2 c = λ named u. unnamed-acted _ _ _ named _ _ _ _ _ _ _ (c .before .before .before .before .before .before .before .before .before .before .before .before .before .before .before .before .before .before .before .before .before .before .before .before .before .before .pre .1) (c .before .before .before .before .before .before .before .before .before .before .before .before .before .before .before .before .before .before .before .before .before .before .before .before .before .before .pre .3) (c .before .before .before .before .before .before .before .before .before .before .before .before .before .before .before .before .before .before .before .before .before .before .before .before .before .before .pre .0) _ u (swept-some _ _ _ (c .before .before .before .before .before .before .before .before .before .before .before .before .before .before .before .before .before .before .before .before .before .read-tally .ensures) _ _ _ (c .before .before .before .before .before .before .before .before .before .before .before .before .before .for-sweep .ensures) (c .before .before .before .before .before .before .before .before .before .before .before .if1 .left)) (swept-beside (c .before .before .before .before .before .before .before .before .before .before .before .before .before .before .before .before .before .before .before .before .before .read-tally .ensures) (c .before .before .before .before .before .before .before .before .before .before .before .before .before .for-sweep .ensures)) _ (rw (c .before .before .before .before .before .before .before .before .before .before .action-at .ensures) at (c .before .before .before .before .act-on .ensures))
 
 pub sweep-leaf-spec : {M : Type 1} → statement M

@@ -1,4 +1,3 @@
-use native.Mathlib.Omega.{arith}
 use borrow.Author.Needs.{needs}
 use Rattle.redact_5_act.proofs.act.put_applied.Statement.{statement}
 use Rattle.redact_5_act.proofs.act.put_applied.Tie as tie
@@ -6,7 +5,7 @@ use mathlib.Core.Path.{sym, _∙_}
 use Rattle.text.specs.Text.{between}
 use Rattle.text.proofs.Kept.{same-all}
 use Rattle.redact_5_act.specs.Inner.{decodedAt}
-use Rattle.redact_5_act.proofs.Acts.{replaced-none, replaced-some, applied-over, applied-fits, applied-sum, decoded-short, beside-as}
+use Rattle.redact_5_act.proofs.Acts.{replaced-none, replaced-some, applied-over, applied-fits, decoded-short, beside-as}
 
 sub-applied-len : tie.Need-sub-applied-len
 sub-applied-len c = search needs
@@ -27,8 +26,7 @@ enum-known-n : tie.Need-enum-known-n
 enum-known-n c = search needs
 
 is-over-requires : tie.Need-is-over-requires
-unfolding decodedAt between
-is-over-requires c κs = applied-sum 0 _ _ _ (sym (c .before .before .before .applied-len .ensures _ _ (c .before .before .before .before .before .before .before .before .pre .0)) ∙ c .before .n .given .1) (c .before .before .before .before .before .before .before .before .pre .0) (omega arith) (decoded-short (c .before .before .before .before .before .before .before .before .pre .2)) (c .before .before .before .before .before .before .before .before .pre .1)
+is-over-requires c κs = search needs
 
 returns : tie.Need-returns
 unfolding decodedAt between

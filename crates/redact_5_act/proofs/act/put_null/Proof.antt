@@ -8,6 +8,7 @@ use Rattle.text.specs.Text.{bytes}
 use Rattle.text.proofs.Kept.{wrote-stands}
 use Rattle.message_model.specs.Value.{NULL}
 use Rattle.redact_5_act.proofs.Acts.{overran, became}
+use Rattle.refusal.specs.Limits.{TEXT_MAX}
 
 is-over-requires : tie.Need-is-over-requires
 is-over-requires c κs = search needs
@@ -20,7 +21,7 @@ slice-aggregate-copy-at : tie.Need-slice-aggregate-copy-at
 slice-aggregate-copy-at c = search needs
 
 copy-at-requires : tie.Need-copy-at-requires
-copy-at-requires c κs = omega (arith, c .before .before .before .before .pre .1 (ltb-false 49152 _ (sym (c .before .before .before .is-over .ensures) ∙ c .before .before .if1 .left)))
+copy-at-requires c κs = omega (arith, c .before .before .before .before .pre (ltb-false TEXT_MAX _ (sym (c .before .before .before .is-over .ensures) ∙ c .before .before .if1 .left)))
 
 returns-2 : tie.Need-returns-2
 unfolding NULL bytes

@@ -5,6 +5,7 @@ use borrow.Author.Needs.{needs}
 use mathlib.Core.Path.{sym, _∙_}
 use Prim.Native.Nat.{_-_}
 use Rattle.text.specs.Text.{between}
+use Rattle.er7_value.proofs.Starts.{none-marked}
 use Rattle.redact_5_act.proofs.Knowing.{Seeking, seeking-start, seeking-end, seeking-found, seeking-more}
 
 abbrev Inv-loop : tie.InvT-loop
@@ -23,7 +24,7 @@ part-mark-starts-end : tie.Need-part-mark-starts-end Inv-loop μ-loop
 part-mark-starts-end c = search needs
 
 mark-starts-requires : tie.Need-mark-starts-requires Inv-loop μ-loop
-mark-starts-requires c κs = search needs
+mark-starts-requires c κs = none-marked 256
 
 loop-holds : tie.Need-loop-holds Inv-loop μ-loop
 loop-holds c = seeking-start

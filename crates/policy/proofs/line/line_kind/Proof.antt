@@ -1,0 +1,80 @@
+use borrow.Author.Needs.{needs}
+use Rattle.policy.proofs.line.line_kind.Statement.{statement}
+use Rattle.policy.proofs.line.line_kind.Tie as tie
+use Rattle.policy.proofs.line.line_kind.Reads as reads
+use Rattle.policy.proofs.line.line_kind.Lts as lts
+use mathlib.Core.Path.{sym, _∙_}
+use Rattle.text.specs.Text.{bytes}
+use Rattle.policy_model.specs.Policy.{lineKind}
+use Rattle.policy.specs.Line.{asLineKind}
+
+slice-aggregate-is-word : tie.Need-slice-aggregate-is-word
+slice-aggregate-is-word c = search needs
+
+is-word-requires : tie.Need-is-word-requires
+is-word-requires c κs = search needs
+
+returns : tie.Need-returns
+unfolding lineKind bytes asLineKind
+returns c = sym (rw (sym (c .before .is-word .ensures) ∙ c .if1 .taken))
+
+slice-aggregate-is-word-2 : tie.Need-slice-aggregate-is-word-2
+slice-aggregate-is-word-2 c = search needs
+
+is-word-requires-2 : tie.Need-is-word-requires-2
+is-word-requires-2 c κs = search needs
+
+returns-2 : tie.Need-returns-2
+unfolding lineKind bytes asLineKind
+returns-2 c = sym (rw (sym (c .before .before .before .before .is-word .ensures) ∙ c .before .before .before .if1 .left, sym (c .before .is-word2 .ensures) ∙ c .if2 .taken))
+
+is-unrecognised-requires : tie.Need-is-unrecognised-requires
+is-unrecognised-requires c κs = search needs
+
+returns-3 : tie.Need-returns-3
+unfolding lineKind bytes asLineKind
+returns-3 c = sym (rw (sym (c .before .before .before .before .before .before .is-word .ensures) ∙ c .before .before .before .before .before .if1 .left, sym (c .before .before .before .is-word2 .ensures) ∙ c .before .before .if2 .left, sym (c .before .is-unrecognised .ensures) ∙ c .if3 .taken))
+
+slice-aggregate-is-word-3 : tie.Need-slice-aggregate-is-word-3
+slice-aggregate-is-word-3 c = search needs
+
+is-word-requires-3 : tie.Need-is-word-requires-3
+is-word-requires-3 c κs = search needs
+
+returns-4 : tie.Need-returns-4
+unfolding lineKind bytes asLineKind
+returns-4 c = sym (rw (sym (c .before .before .before .before .before .before .before .before .before .is-word .ensures) ∙ c .before .before .before .before .before .before .before .before .if1 .left, sym (c .before .before .before .before .before .before .is-word2 .ensures) ∙ c .before .before .before .before .before .if2 .left, sym (c .before .before .before .before .is-unrecognised .ensures) ∙ c .before .before .before .if3 .left, sym (c .before .is-word3 .ensures) ∙ c .if4 .taken))
+
+slice-aggregate-is-word-4 : tie.Need-slice-aggregate-is-word-4
+slice-aggregate-is-word-4 c = search needs
+
+is-word-requires-4 : tie.Need-is-word-requires-4
+is-word-requires-4 c κs = search needs
+
+returns-5 : tie.Need-returns-5
+unfolding lineKind bytes asLineKind
+returns-5 c = sym (rw (sym (c .before .before .before .before .before .before .before .before .before .before .before .before .is-word .ensures) ∙ c .before .before .before .before .before .before .before .before .before .before .before .if1 .left, sym (c .before .before .before .before .before .before .before .before .before .is-word2 .ensures) ∙ c .before .before .before .before .before .before .before .before .if2 .left, sym (c .before .before .before .before .before .before .before .is-unrecognised .ensures) ∙ c .before .before .before .before .before .before .if3 .left, sym (c .before .before .before .before .is-word3 .ensures) ∙ c .before .before .before .if4 .left, sym (c .before .is-word4 .ensures) ∙ c .if5 .taken))
+
+returns-6 : tie.Need-returns-6
+unfolding lineKind bytes asLineKind
+returns-6 c = sym (rw (sym (c .before .before .before .before .before .before .before .before .before .before .before .before .is-word .ensures) ∙ c .before .before .before .before .before .before .before .before .before .before .before .if1 .left, sym (c .before .before .before .before .before .before .before .before .before .is-word2 .ensures) ∙ c .before .before .before .before .before .before .before .before .if2 .left, sym (c .before .before .before .before .before .before .before .is-unrecognised .ensures) ∙ c .before .before .before .before .before .before .if3 .left, sym (c .before .before .before .before .is-word3 .ensures) ∙ c .before .before .before .if4 .left, sym (c .before .is-word4 .ensures) ∙ c .if5 .left))
+
+pub line-kind-spec : {M : Type 1} → statement M
+line-kind-spec =
+    tie.close
+    (tie.spec
+    slice-aggregate-is-word
+    is-word-requires
+    returns
+    slice-aggregate-is-word-2
+    is-word-requires-2
+    returns-2
+    is-unrecognised-requires
+    returns-3
+    slice-aggregate-is-word-3
+    is-word-requires-3
+    returns-4
+    slice-aggregate-is-word-4
+    is-word-requires-4
+    returns-5
+    returns-6)
