@@ -37,7 +37,7 @@ for log in target/must-fail/*/*/.log; do
     first=${first#"$room/target/must-fail/$edit/"}
     echo "$edit: ${first:0:200}"
     case $first in
-    *'has no `Need-'* | *'has no field'* | *'is not in scope'* | *': error: `'*'-spec`: '*)
+    *'has no `Need-'* | *'has no field'* | *'is not in scope'* | *'-spec`: '*'expected type `tie.Need-'*'but this has type `tie.Need-'*)
         echo "$edit: REFUSED FOR ITS FORM"
         form=$((form + 1))
         ;;
