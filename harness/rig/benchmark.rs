@@ -206,6 +206,24 @@ fn swept() -> (String, String) {
     (text.replace("member 4412", "member400"), "Z01 mask\nknown-values on\n".into())
 }
 
+/// A learnt value of so many bytes, a unit over and over with an x at its end, and a leaf that nearly repeats it from every place on.
+fn nearly(value: usize, leaf: usize, unit: &str) -> (String, String) {
+    let repeated = |n: usize| unit.repeat(n / unit.len() + 1)[..n].to_string();
+    let mut word = repeated(value);
+    word.replace_range(value - 1..value, "x");
+    (format!("MSH|^~\\&|A\rZ01|{word}\rOBX|1|{}", repeated(leaf)), "Z01 mask\nknown-values on\n".into())
+}
+
+/// 512 learnt values of so many bytes that differ at their end, and a leaf that nearly repeats each from every place on.
+fn nearly_all(value: usize, leaf: usize) -> (String, String) {
+    let mut text = "MSH|^~\\&|A\rZ01".to_string();
+    for i in 0..512 {
+        text += &format!("|{}{i:03x}", "-".repeat(value - 3));
+    }
+    text += &format!("\rOBX|{}", "-".repeat(leaf));
+    (text, "Z01 mask\nknown-values on\n".into())
+}
+
 /// A log with about so many kilobytes: results, and behind 200 of them, which have nearly 4,096 leaves, notes.
 fn log_of(kilobytes: usize) -> String {
     let most = kilobytes * 1024;
@@ -223,7 +241,7 @@ fn log_of(kilobytes: usize) -> String {
 
 fn print_line(name: &str, message: &str, t: &Times, bar: &str) {
     println!(
-        "{name:34}{:>7}{:>7}{:>11.1}{:>11.1}{:>8.2}{bar:>6}{:>10.2}{:>12.1}",
+        "{name:46}{:>7}{:>7}{:>11.1}{:>11.1}{:>8.2}{bar:>6}{:>10.2}{:>12.1}",
         message.len(), t.rows, t.rust, t.port, t.port / t.rust, t.floor, t.port / t.floor
     );
 }
@@ -241,7 +259,7 @@ fn main() {
         ("e  4,096 leaves, 128 rules", many, reaching, 0.20),
         ("f  sweep with 512 learnt values", swept, sweeping, 0.06),
     ];
-    println!("{:34}{:>7}{:>7}{:>11}{:>11}{:>8}{:>6}{:>10}{:>12}", "microseconds per call", "bytes", "rows", "Rust", "port", "ratio", "bar", "floor", "port/floor");
+    println!("{:46}{:>7}{:>7}{:>11}{:>11}{:>8}{:>6}{:>10}{:>12}", "microseconds per call", "bytes", "rows", "Rust", "port", "ratio", "bar", "floor", "port/floor");
     let mut met = 0;
     for (name, message, policy, bar) in &cases {
         let t = measure(&mut buffers, message.as_bytes(), policy.as_bytes());
@@ -252,6 +270,21 @@ fn main() {
     for (name, message, policy, _) in &cases[..2] {
         let [one, two] = [1, 2].map(|threads| a_second(threads, message.as_bytes(), policy.as_bytes()));
         println!("{name}: {one:.0} logs a second on one thread, {two:.0} on two");
+    }
+    println!();
+    let slow = [
+        ("a word of 16,000 letters, and as many", nearly(16_000, 16_000, "a")),
+        ("a word of 16,000 dashes, and as many", nearly(16_000, 16_000, "-")),
+        ("a word of 10,800 letters, and twice as many", nearly(10_800, 21_600, "a")),
+        ("a word of 10,800 dashes, and twice as many", nearly(10_800, 21_600, "-")),
+        ("a word of a-a-.., 10,800, and twice as many", nearly(10_800, 21_600, "a-")),
+        ("512 words of 32 bytes, 15,800 dashes", nearly_all(32, 15_800)),
+        ("512 words of 15 bytes, 24,000 dashes", nearly_all(15, 24_000)),
+        ("512 words of 7 bytes, 28,600 dashes", nearly_all(7, 28_600)),
+    ];
+    for (name, (message, policy)) in &slow {
+        let t = measure(&mut buffers, message.as_bytes(), policy.as_bytes());
+        print_line(name, message, &t, "");
     }
     for (name, policy) in [("gym policy", GYM.to_string()), ("built-in 2", builtin(Policy::patient_identifiers())), ("reject clear", "reject clear\n".to_string())] {
         println!();

@@ -9,6 +9,7 @@ mod reader;
 use gateway::{Caller, Entry, Lengths, Outcome};
 use make::Random;
 use model::LEAST;
+use std::collections::BTreeMap;
 use std::time::Instant;
 
 /// How long the report's buffer is: a number, or the report's own length and a bit.
@@ -52,6 +53,8 @@ struct Rig {
     calls: u64,
     smallest: Option<(Case, String)>,
     differing: u64,
+    /// How many cases have reached what a change brought.
+    reached: BTreeMap<&'static str, u64>,
 }
 
 fn size(e: &Entry) -> usize {
@@ -89,6 +92,9 @@ impl Rig {
 
     fn run(&mut self, case: Case) {
         let (number, what) = self.differs(&case);
+        for what in model::reached() {
+            *self.reached.entry(what).or_default() += 1;
+        }
         self.calls += 1;
         self.numbers[number as usize] += 1;
         if let Some(what) = what {
@@ -167,7 +173,7 @@ fn main() {
     let mut arguments = std::env::args().skip(1).map(|a| a.parse::<u64>().expect("a number"));
     let seed = arguments.next().unwrap_or(1);
     let count = arguments.next().unwrap_or(200_000);
-    let mut rig = Rig { caller: Caller::new(), numbers: [0; 15], calls: 0, smallest: None, differing: 0 };
+    let mut rig = Rig { caller: Caller::new(), numbers: [0; 15], calls: 0, smallest: None, differing: 0, reached: BTreeMap::new() };
     let mut r = Random(seed);
     make::short_inputs(|entry| {
         let (output, scratch, report) = lengths(&mut r);
@@ -177,6 +183,7 @@ fn main() {
         rig.run(Case { entry, output, scratch, report, seed: r.next() });
     });
     let short = rig.calls;
+    let reached_short = rig.reached.clone();
     for i in 0..count {
         let mut r = Random(seed.wrapping_mul(0x9e3779b97f4a7c15) ^ i.wrapping_mul(0xd1342543de82ef95));
         let entry = make::random_input(&mut r);
@@ -185,6 +192,10 @@ fn main() {
     }
     let numbers: Vec<String> = rig.numbers.iter().enumerate().map(|(n, k)| format!("{n}: {k}")).collect();
     println!("numbers: {}", numbers.join(", "));
+    for (what, cases) in &rig.reached {
+        let short = reached_short.get(what).unwrap_or(&0);
+        println!("reached {what}: by {short} short inputs and {} random ones", cases - short);
+    }
     if let Some((case, what)) = &rig.smallest {
         println!("smallest differing input: {what}");
         show(&case.entry);

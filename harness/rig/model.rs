@@ -1,6 +1,21 @@
 //! A plain model of the entries, written from the specification: the numbers and lines of refusals, and the run. It shares nothing with
 //! the Rust nor with the port.
-use std::collections::HashSet;
+use std::cell::RefCell;
+use std::collections::{BTreeSet, HashSet};
+
+thread_local! {
+    static REACHED: RefCell<BTreeSet<&'static str>> = const { RefCell::new(BTreeSet::new()) };
+}
+
+/// Notes that a case has reached behaviour that a change brought.
+fn reach(what: &'static str) {
+    REACHED.with_borrow_mut(|all| all.insert(what));
+}
+
+/// What the cases since the last call have reached.
+pub fn reached() -> BTreeSet<&'static str> {
+    REACHED.take()
+}
 
 pub const LEAST: usize = 49_152;
 pub const LONGEST: usize = 32_768;
@@ -418,19 +433,24 @@ fn action_text(a: &Action) -> Vec<u8> {
     }
 }
 
-/// By non-overlapping hits from the left, with no letter or digit directly before or behind.
+/// At some place, with no letter or digit directly before or behind.
 pub fn is_whole_word(word: &[u8], text: &[u8]) -> bool {
-    let mut i = 0;
-    while i + word.len() <= text.len() {
-        if &text[i..i + word.len()] != word {
-            i += 1;
+    // behind the last hit that overlaps no earlier one
+    let mut apart = 0;
+    for i in 0..=text.len().saturating_sub(word.len()) {
+        if !text[i..].starts_with(word) {
             continue;
         }
         let end = i + word.len();
         if (i == 0 || !text[i - 1].is_ascii_alphanumeric()) && (end == text.len() || !text[end].is_ascii_alphanumeric()) {
+            if i < apart {
+                reach("a hit that begins inside another hit");
+            }
             return true;
         }
-        i = end;
+        if i >= apart {
+            apart = end;
+        }
     }
     false
 }

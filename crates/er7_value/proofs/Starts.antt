@@ -1,10 +1,10 @@
 -- Laws of the bytes at which a word can start. Assumes nothing.
 use mathlib.Core.Path.{_≡_, refl, sym, ap, _∙_}
-use mathlib.Core.Bool.{Bool, true, false, not, cond, _&&_, _||_, or-assoc}
+use mathlib.Core.Bool.{Bool, true, false, not, _&&_, _||_, or-assoc}
 use mathlib.Core.List.{List, [], _∷_}
-use Prim.Native.Nat.{ℕ, zero, suc, _+_, _-_, _≤_, _<_}
+use Prim.Native.Nat.{ℕ, zero, suc, _+_, _≤_, _<_}
 use native.Mathlib.Omega.{arith}
-use borrow.Author.Tests.{eqb-true, eqb-false, eq-eqb, not-true}
+use borrow.Author.Tests.{eqb-true, eqb-false, eq-eqb}
 use lib.ListN.{length, take, drop, getD, set, replicate, length-set, drop-of-length-le}
 use lib.Dec.{eqb}
 use lib.Seq.{getD-take, getD-set-same, getD-set-other}
@@ -13,7 +13,7 @@ use Rattle.text.specs.Text.{Text, isIn, isAlphanumeric, begins}
 use Rattle.text.proofs.Laws.{and-left, and-right, and-id, and-false, or-id, or-true, clash}
 use Rattle.text.proofs.Runs.{drop-step}
 use Rattle.text.proofs.Words.{same-eq}
-use Rattle.message_model.specs.Value.{endsWord, findWord, isWholeWord}
+use Rattle.message_model.specs.Value.{endsWord, isHit, findWord, isWholeWord}
 use Rattle.er7_value.specs.Starts.{startsBehind, startsWord, Starts}
 
 -- ---- a whole word starts with no letter or digit before it
@@ -22,36 +22,29 @@ or-either : {X : Type 0} (a b : Bool) → (a || b) ≡ true → (a ≡ true → 
 or-either true b e f g = f refl
 or-either false b e f g = g e
 
--- what is found is found here, with no letter or digit before it, or further on
-found-at : {X : Type 0} (v : Text) (a : Bool) (k x : ℕ) (t : Text) → findWord v a k (x ∷ t) ≡ true → (a ≡ false → begins v (x ∷ t) ≡ true → X)
-    → ((m : ℕ) → findWord v (isAlphanumeric x) m t ≡ true → X) → X
-unfolding findWord
-found-at v a (suc k) x t e f g = g k e
-found-at v a zero x t e f g =
-    let b = begins v (x ∷ t) in
-    let w = not a && endsWord (drop (length v) (x ∷ t)) in
-    or-either (b && w) _ e (λ h. f (not-true a (and-left (not a) _ (and-right b w h))) (and-left b w h)) (g (cond b (length v - 1) 0))
-
 -- the first byte of a hit is that of v
 hit-first : (v t : Text) → 0 < length v → begins v t ≡ true → getD t 0 0 ≡ getD v 0 0
 unfolding begins
 hit-first v t h e = sym (getD-take (length v) t 0 0 h) ∙ ap (λ (s : Text). getD s 0 0) (sym (same-eq v (take (length v) t) e))
 
-word-starts : (v : Text) (a : Bool) (k : ℕ) (t : Text) → 0 < length v → findWord v a k t ≡ true → startsBehind a t (getD v 0 0) ≡ true
-unfolding startsBehind
-word-starts v a k [] h e = unfold findWord in clash (sym e)
-word-starts v a k (x ∷ t) h e = found-at v a k x t e
-    (λ f b. rw (f, eq-eqb x (getD v 0 0) (hit-first v (x ∷ t) h b)))
-    (λ m f. rw (word-starts v (isAlphanumeric x) m t h f) (or-true (not a && eqb x (getD v 0 0))))
+word-starts : (v : Text) (a : Bool) (t : Text) → 0 < length v → findWord v a t ≡ true → startsBehind a t (getD v 0 0) ≡ true
+unfolding startsBehind findWord
+word-starts v a [] h e = clash (sym e)
+word-starts v a (x ∷ t) h e =
+    let ends = endsWord (drop (length v) (x ∷ t)) in
+    or-either (isHit v a (x ∷ t)) (findWord v (isAlphanumeric x) t) e
+    (λ f. let b = and-left (begins v (x ∷ t)) ends (and-right (not a) _ f) in
+    rw (and-left (not a) _ f, eq-eqb x (getD v 0 0) (hit-first v (x ∷ t) h b)))
+    (λ f. rw (word-starts v (isAlphanumeric x) t h f) (or-true (not a && eqb x (getD v 0 0))))
 
 -- a text in which the first byte of v is not marked does not have v as a word
 pub word-unmarked : (v t : Text) {starts : List Bool} → Starts t starts → 0 < length v → getD starts (getD v 0 0) false ≡ false → isWholeWord v t ≡ false
 unfolding isWholeWord startsWord
-word-unmarked v t {starts} g h e = by-word (findWord v false 0 t) refl
+word-unmarked v t {starts} g h e = by-word (findWord v false t) refl
   where
-    by-word : (b : Bool) → findWord v false 0 t ≡ b → b ≡ false
+    by-word : (b : Bool) → findWord v false t ≡ b → b ≡ false
     by-word false q = refl
-    by-word true q = clash (sym (word-starts v false 0 t h q) ∙ sym (g .marked (getD v 0 0)) ∙ e)
+    by-word true q = clash (sym (word-starts v false t h q) ∙ sym (g .marked (getD v 0 0)) ∙ e)
 
 -- ---- marking
 

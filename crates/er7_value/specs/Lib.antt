@@ -1,3 +1,2 @@
 pub mod Escape
 pub mod Starts
-pub mod Word

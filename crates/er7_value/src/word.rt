@@ -7,12 +7,11 @@ use text::bytes::lower_byte;
 ghost use mathlib.Core.Path.{_≡_};
 ghost use mathlib.Core.List.{[]};
 ghost use Prim.Native.Nat.{_+_, _-_, _≤_};
-ghost use lib.ListN.{length, drop};
-ghost use Rattle.text.specs.Text.{Wrote, lower, part, begins};
-ghost use Rattle.message_model.specs.Value.{endsWord, isWholeWord};
+ghost use lib.ListN.{length, take, drop};
+ghost use Rattle.text.specs.Text.{Wrote, lower, part, begins, same};
+ghost use Rattle.message_model.specs.Value.{endsWord, isHit, isWholeWord};
 ghost use Rattle.message_model.specs.Value as Spec;
 ghost use Rattle.er7_value.specs.Starts.{letterBefore, Starts};
-ghost use Rattle.er7_value.specs.Word.{standsAlone};
 
 // Puts buf from index i to index e in lower case.
 pub fn lower_part(buf: &mut [u8], i: usize, e: usize)
@@ -36,8 +35,8 @@ pub fn lower_value(text: &[u8], s: Separators, out: &mut [u8], at: usize) -> usi
     end
 }
 
-// Whether v stands in t from index i on.
-fn begins_at(v: &[u8], t: &[u8], i: usize) -> bool
+// Whether v stands in t from index i on, byte by byte.
+fn begins_by_bytes(v: &[u8], t: &[u8], i: usize) -> bool
     requires { ⌜ i + length (now v) ≤ length (now t) ⌝ }
     ensures { λ r. ⌜ r ≡ begins (now (v .entry)) (drop i (now (t .entry))) ⌝ }
 {
@@ -49,6 +48,58 @@ fn begins_at(v: &[u8], t: &[u8], i: usize) -> bool
         j += 1;
     }
     true
+}
+
+// Whether the eight bytes of v from index j on are those of t from index k on. All are looked at, without a branch, which is faster.
+fn same_eight(v: &[u8], j: usize, t: &[u8], k: usize) -> bool
+    requires { ⌜ (j + 8 ≤ length (now v)) × (k + 8 ≤ length (now t)) ⌝ }
+    ensures { λ r. ⌜ r ≡ same (part (now (v .entry)) j 8) (part (now (t .entry)) k 8) ⌝ }
+{
+    let mut alike = true;
+    let mut n = 0;
+    while n < 8 {
+        alike = alike & (v[j + n] == t[k + n]);
+        n += 1;
+    }
+    alike
+}
+
+// Whether v, which has eight bytes at least, stands in t from index i on: eight bytes at a time, the last eight at the end.
+fn begins_by_eights(v: &[u8], t: &[u8], i: usize) -> bool
+    requires { ⌜ (8 ≤ length (now v)) × (i + length (now v) ≤ length (now t)) ⌝ }
+    ensures { λ r. ⌜ r ≡ begins (now (v .entry)) (drop i (now (t .entry))) ⌝ }
+{
+    let last = v.len() - 8;
+    let mut j = 0;
+    while j < last {
+        if !same_eight(v, j, t, i + j) {
+            return false;
+        }
+        j += 8;
+    }
+    same_eight(v, last, t, i + last)
+}
+
+// Whether v stands in t from index i on.
+fn begins_at(v: &[u8], t: &[u8], i: usize) -> bool
+    requires { ⌜ i + length (now v) ≤ length (now t) ⌝ }
+    ensures { λ r. ⌜ r ≡ begins (now (v .entry)) (drop i (now (t .entry))) ⌝ }
+{
+    if v.len() < 8 {
+        return begins_by_bytes(v, t, i);
+    }
+    begins_by_eights(v, t, i)
+}
+
+// Whether the first byte of v, if it has one, stands in t at index i.
+fn first_fits(v: &[u8], t: &[u8], i: usize) -> bool
+    requires { ⌜ i + length (now v) ≤ length (now t) ⌝ }
+    ensures { λ r. ⌜ r ≡ begins (take 1 (now (v .entry))) (drop i (now (t .entry))) ⌝ }
+{
+    if v.len() == 0 {
+        return true;
+    }
+    v[0] == t[i]
 }
 
 // Whether a letter or digit stands in t directly before index i.
@@ -90,19 +141,26 @@ fn ends_word(t: &[u8], e: usize) -> bool
     !is_in(Class::Alphanumeric, t[e])
 }
 
-// Whether no letter or digit stands directly before or behind the bytes of t from index i to index e.
-fn stands_alone(t: &[u8], i: usize, e: usize) -> bool
-    requires { ⌜ (i ≤ e) × (e ≤ length (now t)) ⌝ }
-    ensures { λ r. ⌜ r ≡ standsAlone (now (t .entry)) i e ⌝ }
+// Whether v stands in t from index i on with no letter or digit directly before or behind it. Where another byte than the first of v stands,
+// and behind a letter or digit, nothing else is compared.
+fn is_hit_at(v: &[u8], t: &[u8], i: usize) -> bool
+    requires { ⌜ i + length (now v) ≤ length (now t) ⌝ }
+    ensures { λ r. ⌜ r ≡ isHit (now (v .entry)) (letterBefore (now (t .entry)) i) (drop i (now (t .entry))) ⌝ }
 {
+    if !first_fits(v, t, i) {
+        return false;
+    }
     if letter_before(t, i) {
         return false;
     }
-    ends_word(t, e)
+    if !begins_at(v, t, i) {
+        return false;
+    }
+    ends_word(t, i + v.len())
 }
 
-// How far the search goes on behind a hit of n bytes.
-fn step_behind(n: usize) -> usize
+// The bytes that are left behind the last place at which n bytes may stand: there is a byte at every place.
+fn least_left(n: usize) -> usize
     ensures { λ r. ⌜ r ≡ 1 + (n - 1) ⌝ }
 {
     if n == 0 {
@@ -111,25 +169,21 @@ fn step_behind(n: usize) -> usize
     n
 }
 
-// Whether v is a whole word of t: whether a hit of v, found from the left with no two overlapping, has no letter or digit directly before or behind it.
+// Whether v is a whole word of t: whether it stands at some place of t with no letter or digit directly before or behind it.
 pub fn is_whole_word(v: &[u8], t: &[u8]) -> bool
     ensures { λ r. ⌜ r ≡ isWholeWord (now (v .entry)) (now (t .entry)) ⌝ }
 {
-    let step = step_behind(v.len());
-    if t.len() < step {
+    let least = least_left(v.len());
+    if t.len() < least {
         return false;
     }
-    let end = t.len() - step + 1;
-    let mut i = 0;
-    while i < end {
-        if begins_at(v, t, i) {
-            if stands_alone(t, i, i + v.len()) {
-                return true;
-            }
-            i += step;
-        } else {
-            i += 1;
+    let end = t.len() - least + 1;
+    let mut place = 0;
+    while place < end {
+        if is_hit_at(v, t, place) {
+            return true;
         }
+        place += 1;
     }
     false
 }

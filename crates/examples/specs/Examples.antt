@@ -243,7 +243,8 @@ table =
     ∷ value-is "\\.br\\F\\" "\\.br\\F\\" "\\E\\.br\\E\\F\\E\\"
     ∷ value-is "\"\"" "" ""
     ∷ whole-word "a-a" "b a-a" true
-    ∷ whole-word "a-a" "xa-a-a" false
+    ∷ whole-word "a-a" "xa-a-a" true
+    ∷ whole-word "a-a" "xa-ax" false
     ∷ message-fault "" 4
     ∷ message-fault "\r" 4
     ∷ message-fault "MSH|^~\\&" 0
@@ -301,8 +302,8 @@ table =
     ∷ strips "MSH|^~\\&|A\rPID|1||4412\rOBX|1|NM|KCAL||4412 kcal\r" "PID-3 mask\n" "0x" "bad input\n"
     -- counting OBX over all segments
     ∷ gives-not "MSH|^~\\&\rPID|1\rOBX|1\rOBX|2" "OBX[2]-1 clear" "MSH|^~\\&\rPID|1\rOBX|1\rOBX|" "MSH|^~\\&\rPID|1\rOBX|1\rOBX|2"
-    -- sweeping overlapping hits
-    ∷ gives-not "MSH|^~\\&\rPID|a-a|xa-a-a" "PID-1 clear" "MSH|^~\\&\rPID||xa-a-a" "MSH|^~\\&\rPID||"
+    -- passing by a hit that begins inside another hit
+    ∷ gives-not "MSH|^~\\&\rPID|a-a|xa-a-a" "PID-1 clear" "MSH|^~\\&\rPID||" "MSH|^~\\&\rPID||xa-a-a"
     -- treating a kept leaf as unnamed under reject
     ∷ gives-not "MSH|^~\\&\rPID|ab|cd" "PID-1 keep\nreject clear" "MSH|^~\\&\rPID|ab|" "MSH|^~\\&\rPID||"
     -- learning only the first value of a leaf that two rules change

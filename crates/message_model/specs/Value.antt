@@ -93,16 +93,15 @@ encode s (b ∷ v) = encodeByte s b (letterOf s b) ++ encode s v
 unfoldable pub endsWord : Text → Bool
 endsWord t = not (isWordChar t)
 
--- "non-overlapping hits from the left": a hit of v in a text, "with no letter or digit directly before or behind it".
--- `after` says whether a letter or digit stands before the text; the number is of bytes that still belong to a hit
-unfoldable pub findWord : Text → Bool → ℕ → Text → Bool
-findWord v after k [] = false
-findWord v after (suc k) (x ∷ t) = findWord v (wordBehind after (x ∷ t)) k t
-findWord v after zero (x ∷ t) =
-    let here = begins v (x ∷ t) in
-    let whole = not after && endsWord (drop (length v) (x ∷ t)) in
-    here && whole || findWord v (wordBehind after (x ∷ t)) (cond here (length v - 1) 0) t
+-- v stands at the front of a text, "with no letter or digit directly before or behind it"; `after` says whether one stands before the text
+abbrev pub isHit : Text → Bool → Text → Bool
+isHit v after t = not after && (begins v t && endsWord (drop (length v) t))
+
+-- "The word finder now tries every starting place, overlapping ones too": some place of the text has a hit
+unfoldable pub findWord : Text → Bool → Text → Bool
+findWord v after [] = false
+findWord v after (x ∷ t) = isHit v after (x ∷ t) || findWord v (wordBehind after (x ∷ t)) t
 
 -- v is a whole word of t; both in lower case
 unfoldable pub isWholeWord : Text → Text → Bool
-isWholeWord v t = findWord v false 0 t
+isWholeWord v t = findWord v false t

@@ -33,3 +33,13 @@ impl fmt::Display for Error {
 }
 
 impl std::error::Error for Error {}
+
+/// Every place at which a word stands in a text, overlapping ones too.
+pub(crate) fn every_place<'a>(text: &'a str, word: &'a str) -> impl Iterator<Item = (usize, &'a str)> {
+    let mut from = 0;
+    std::iter::from_fn(move || {
+        let i = from + text[from..].find(word)?;
+        from = i + text[i..].chars().next().map_or(1, char::len_utf8);
+        Some((i, word))
+    })
+}

@@ -1,6 +1,6 @@
 use borrow.Author.Needs.{needs}
-use Rattle.er7_value.proofs.word.begins_at.Statement.{statement}
-use Rattle.er7_value.proofs.word.begins_at.Tie as tie
+use Rattle.er7_value.proofs.word.begins_by_bytes.Statement.{statement}
+use Rattle.er7_value.proofs.word.begins_by_bytes.Tie as tie
 use native.Mathlib.Omega.{arith}
 use Prim.Native.Nat.{_-_}
 use lib.ListN.{length}
@@ -41,8 +41,8 @@ loop-again c = hit-more _ _ _ (c .before .before .before .before .loop .inv) (om
 returns-2 : tie.Need-returns-2 Inv-loop μ-loop
 returns-2 c = hit-all _ _ _ (c .before .loop .inv) (omega arith)
 
-pub begins-at-spec : {M : Type 1} → statement M
-begins-at-spec =
+pub begins-by-bytes-spec : {M : Type 1} → statement M
+begins-by-bytes-spec =
     tie.close
     (tie.spec
     Inv-loop
