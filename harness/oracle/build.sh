@@ -27,6 +27,9 @@ alter() {
 
 # A hit that begins inside another hit: every starting place is tried.
 alter er7_redact/redact.rs 'haystack.match_indices(needle)' 'crate::every_place(haystack, needle)'
+# The longest learnt value: of equally long ones max_by_key takes the last.
+alter er7_redact/redact.rs '.find(|(known, _)| contains_whole_word(&value, known))' \
+    '.filter(|(known, _)| contains_whole_word(&value, known)).max_by_key(|(known, _)| known.len())'
 
 rustc --edition 2024 -C opt-level=3 --crate-type rlib --crate-name er7 "$out/er7/lib.rs" --out-dir "$out"
 rustc --edition 2024 -C opt-level=3 --crate-type rlib --crate-name er7_redact "$out/er7_redact/lib.rs" --extern "er7=$out/liber7.rlib" \

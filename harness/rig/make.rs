@@ -126,6 +126,15 @@ pub fn short_inputs(mut call: impl FnMut(Entry)) {
             call(Entry::Payload { payload: vec![b'a', byte, b'b'], policy, key: 2 });
         }
     }
+    let learning = [
+        "PID-1 mask\nPID-2 clear\nPID-3 first 2\nPID-4 last 9",
+        "PID-4 mask\nPID-3 clear\nPID-2 first 2\nPID-1 last 9",
+        "PID-3 first 9\nPID-1 clear\nPID-2 null\nPID mask",
+        "PID-2 mask\nPID-4 replace ann\nPID-1 clear\nPID-3 null",
+    ];
+    for (i, leaf) in all_of(&["ann", "lee", " ", "-", "x"], 5).iter().enumerate() {
+        call(redact(&format!("MSH|^~\\&\rPID|Ann|Lee|ann lee|lee-ann\rOBX|{leaf}"), learning[i % 4]));
+    }
 }
 
 // ---- random inputs

@@ -650,13 +650,26 @@ impl Run<'_> {
         Ok(())
     }
 
-    /// The action of the first learnt value that is a whole word of a text's value.
+    /// The action of the longest learnt value that is a whole word of a text's value, of equally long ones that of the last learnt.
     pub fn found(&self, text: &[u8]) -> Option<Action> {
         if text.is_empty() || text == NULL {
             return None;
         }
         let v = value(&self.message.delimiters, text).to_ascii_lowercase();
-        self.learnt.iter().find(|(w, _)| is_whole_word(w, &v)).map(|(_, a)| a.clone())
+        let found: Vec<_> = self.learnt.iter().filter(|(w, _)| is_whole_word(w, &v)).collect();
+        let mut best = *found.first()?;
+        for k in &found[1..] {
+            if k.0.len() > best.0.len() {
+                reach("a longer value than one learnt before it");
+            } else if k.0.len() == best.0.len() {
+                reach("a value as long as one learnt before it");
+            } else {
+                reach("a shorter value than one learnt before it");
+                continue;
+            }
+            best = k;
+        }
+        Some(best.1.clone())
     }
 
     pub fn swept(&mut self) -> Result<(), u32> {

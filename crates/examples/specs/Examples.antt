@@ -287,6 +287,8 @@ table =
     ∷ segments-give 90 46 3 6
     ∷ redacts "MSH|^~\\&|A\rPID|1||555-1111^x~y|Z\rOBX|1|NM|KCAL||100\r" "PID-3 null\n" 0 "MSH|^~\\&|A\rPID|1||\"\"|Z\rOBX|1|NM|KCAL||100\r" "PID[1]-3[1].1.1 null\n" 1
     ∷ redacts "MSH|^~\\&|A\rPID|1||4412\rOBX|1|NM|KCAL||4412 kcal\r" "PID-3 mask\nknown-values on\n" 0 "MSH|^~\\&|A\rPID|1||****\rOBX|1|NM|KCAL||*********\r" "PID[1]-3[1].1.1 mask *\nOBX[1]-5[1].1.1 mask *\n" 2
+    ∷ redacts "MSH|^~\\&|A\rPID|1||ann|Ann Lee|to ANN LEE|to ann lee, too\r" "PID-3 mask\nPID-4 first 10\n" 0 "MSH|^~\\&|A\rPID|1||***|Ann Lee|to ANN LEE|to ann lee\r" "PID[1]-3[1].1.1 mask *\nPID[1]-6[1].1.1 first 10\n" 2
+    ∷ redacts "MSH|^~\\&|A\rPID|1||ann|Lee|lee, ann\r" "PID-3 mask\nPID-4 clear\n" 0 "MSH|^~\\&|A\rPID|1||***||\r" "PID[1]-3[1].1.1 mask *\nPID[1]-4[1].1.1 clear\nPID[1]-5[1].1.1 clear\n" 3
     ∷ key-is "0" 0
     ∷ key-is "007\n" 7
     ∷ key-is "18446744073709551615" 18446744073709551615

@@ -20,7 +20,7 @@ use Rattle.message_model.specs.Value.{isEmptyOrNull}
 use Rattle.policy_model.specs.Policy.{Policy}
 use Rattle.policy.specs.Policy.{asPolicy, PolicyHeld}
 use Rattle.policy.specs.declared.policy.Policy.{Policy as HeldPolicy}
-use Rattle.run_model.specs.Redact.{Progress, stopped, knownIn, afterEvents, overLeaves, overSegments, leavesEvents, segmentsEvents, firstFound, forSweep}
+use Rattle.run_model.specs.Redact.{Progress, stopped, knownIn, afterEvents, overLeaves, overSegments, leavesEvents, segmentsEvents, longestFound, actionIn, forSweep}
 use Rattle.run_model.proofs.Chains.{cond-both}
 use Rattle.redact_5_act.specs.Known.{knownFrom}
 use Rattle.redact_5_act.specs.declared.state.Setting.{Setting}
@@ -68,7 +68,7 @@ none-still : (key : ℕ) (s : Separators) (pick : Text → Option Action) → ((
 none-still key s pick f g (leaf p b o) xs = unpicked key s pick g p b o xs (λ t e. f t)
 
 none-found : (s : Separators) (t : Text) → forSweep s [] t ≡ none
-unfolding forSweep firstFound
+unfolding forSweep longestFound actionIn
 none-found s t = cond-both (isEmptyOrNull t) none
 
 idle-alike : (key : ℕ) (s : Separators) (ss : List Segment) → Alike (unnamedPass key s (λ t. none)) (unnamedPass key s (forSweep s [])) ss

@@ -50,7 +50,7 @@ pub fn apply_leaf(
     }
 }
 
-// The sweep on a leaf that is not named: the action of the first learnt value that is a whole word of it.
+// The sweep on a leaf that is not named: the action of the longest learnt value that is a whole word of it.
 pub fn sweep_leaf(
     on: Setting,
     at: Spot,

@@ -4,7 +4,7 @@ use mathlib.Core.Bool.{Bool, true, false, _||_}
 use mathlib.Core.List.{List, [], _∷_, _++_}
 use mathlib.Core.Option.{Option, none}
 use Prim.Native.Nat.{ℕ, zero, suc, _+_, _-_, _*_, _≤_, _<_}
-use native.Mathlib.Nat.{add-zero}
+use native.Mathlib.Nat.{add-zero, sub-zero}
 use native.Mathlib.Omega.{arith}
 use borrow.Author.Tests.{lt-ltb, le-ltb, leb-false, ltb-true, ltb-false}
 use lib.ListN.{length, getD}
@@ -20,11 +20,11 @@ use Rattle.er7_redact.specs.Action.{Action, asAction, ActionHeld, isKeep}
 use Rattle.message_model.specs.Value.{isEmptyOrNull, value}
 use Rattle.er7_value.proofs.Decoding.{long-full, value-length}
 use Rattle.er7_value.proofs.Hits.{word-short}
-use Rattle.run_model.specs.Redact.{Known, knows, knownBytes, Event, learning, afterEvent, afterEvents, firstFound, forSweep}
+use Rattle.run_model.specs.Redact.{Known, knows, knownBytes, Event, learning, afterEvent, afterEvents, longestFound, actionIn, forSweep}
 use Rattle.redact_5_act.specs.declared.known.Learnt.{Learnt}
 use Rattle.redact_5_act.specs.declared.known.Learnt.the-variants.{Kept, Full}
-use Rattle.redact_5_act.specs.Known.{valueAt, hashOf, actionAt, knownAt, knownFrom, GoodKnown, ActionsHeld, progressOf, learnValue, learnLeaf, Learns, foundIn, sweptIn, FoundAt, Swept}
-use Rattle.redact_5_act.specs.Inner.{RowPut}
+use Rattle.redact_5_act.specs.Known.{valueAt, hashOf, actionAt, knownAt, knownFrom, GoodKnown, ActionsHeld, progressOf, learnValue, learnLeaf, Learns, sweptIn, Swept}
+use Rattle.redact_5_act.specs.Inner.{RowFound, RowPut}
 use Rattle.redact_5_act.proofs.Knowing.{apart, known-length}
 use Rattle.refusal.specs.Limits.{LEARNT_BYTES_MAX, LEARNT_MAX}
 
@@ -240,34 +240,35 @@ module _ (s : Separators) (t : Text) (a : HeldAction) (x : Text) where
 -- ---- the sweep
 
 -- in a text that is shorter than every value none is found
-none-found : (v b : Text) (k : List ℕ) (i n : ℕ) → ((j : ℕ) → j < i + n → length v < length (valueAt b k j)) → (x : Text) → firstFound (knownFrom x b k i n) v ≡ none
-unfolding firstFound knownFrom knownAt
+none-found : (v b : Text) (k : List ℕ) (i n : ℕ) → ((j : ℕ) → j < i + n → length v < length (valueAt b k j)) → (x : Text) → longestFound (knownFrom x b k i n) v ≡ none
+unfolding longestFound knownFrom knownAt
 none-found v b k i zero h x = refl
 none-found v b k i (suc n) h x = rw (word-short (valueAt b k i) v (h i (omega arith))) (none-found v b k (i + 1) n (λ j l. h j (omega arith)) x)
 
 pub swept-small : (s : Separators) (t : Text) {b : Text} {k : List ℕ} {n used : ℕ} → GoodKnown b k n used → length t < 3 → Swept s t b b k n used n
-unfolding sweptIn forSweep
+unfolding sweptIn forSweep actionIn
 swept-small s t {b} {k} {n} g h = record {
   beside = same-all;
   found = record {
     high = omega arith;
     found = λ l. absurd (omega arith);
-    missed = λ l x. by-cond (λ (o : Option Action). o ≡ none) (isEmptyOrNull t) none (firstFound (knownFrom x b k 0 n) (lower (value s t)))
+    missed = λ l x. by-cond (λ (o : Option Action). o ≡ none) (isEmptyOrNull t) none (actionIn (longestFound (knownFrom x b k 0 n) (lower (value s t))))
         (λ e. refl)
-        (λ e. none-found (lower (value s t)) b k 0 n (λ j m. omega (arith, small-value s t h, g .slots j (omega arith) .1)) x);
+        (λ e. ap actionIn (none-found (lower (value s t)) b k 0 n (λ j m. omega (arith, small-value s t h, g .slots j (omega arith) .1)) x));
   };
 }
 
 pub swept-found : (s : Separators) (t : Text) {b b′ : Text} {k : List ℕ} {n used m r : ℕ} → GoodKnown b k n used → 3 ≤ length t → Wrote b used (lower (value s t)) b′ m
-    → FoundAt (foundIn (between b′ used m) b′ k n) k n r → Swept s t b b′ k n used r
+    → RowFound (between b′ used m) b′ k 0 n r → Swept s t b b′ k n used r
+unfolding actionIn knownAt
 swept-found s t {b} {b′} {k} {n} {used} {m} {r} g e w h = record {
   beside = wrote-same w;
   found = record {
     high = h .high;
-    found = λ l x. by-leaf x ∙ h .found l x;
-    missed = λ l x. by-leaf x ∙ h .missed l x;
+    found = λ l x. by-leaf x ∙ ap actionIn (h .found l x);
+    missed = λ l x. by-leaf x ∙ ap actionIn (h .missed l x);
   };
 }
   where
-    by-leaf : (x : Text) → sweptIn s t b k n x ≡ foundIn (between b′ used m) b′ k n x
-    by-leaf x = unfold sweptIn in unfold forSweep in unfold foundIn in rw (long-full t e, wrote-between w, known-same g (wrote-same w) x)
+    by-leaf : (x : Text) → sweptIn s t b k n x ≡ actionIn (longestFound (knownFrom x b′ k 0 (n - 0)) (between b′ used m))
+    by-leaf x = unfold sweptIn in unfold forSweep in rw (long-full t e, wrote-between w, known-same g (wrote-same w) x, sub-zero n)

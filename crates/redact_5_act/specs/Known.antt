@@ -15,7 +15,7 @@ use Rattle.er7_redact.specs.declared.action.Action.the-variants as Held
 use Rattle.er7_redact.specs.Action.{Action, asAction, ActionHeld}
 use Rattle.refusal.specs.declared.Refusal.the-variants.{TooMuchLearnt}
 use Rattle.refusal.specs.Limits.{LEARNT_BYTES_MAX, LEARNT_MAX}
-use Rattle.run_model.specs.Redact.{Known, knownBytes, Row, Event, learn, learning, Progress, running, stopped, afterEvents, firstFound, forSweep}
+use Rattle.run_model.specs.Redact.{Known, knownBytes, Row, Event, learn, learning, Progress, running, stopped, afterEvents, forSweep}
 use Rattle.redact_5_act.specs.declared.known.Learnt.{Learnt}
 use Rattle.redact_5_act.specs.declared.known.Learnt.the-variants.{Kept, Full}
 
@@ -98,10 +98,7 @@ pub record Learns (es : Text → List Event) (a : HeldAction) (bytes : Text) (kn
 
 -- ---- finding
 
--- the action that is found for a value, and that the sweep takes for a leaf with the text t, among n rows
-unfoldable pub foundIn : Text → Text → List ℕ → ℕ → Text → Option Action
-foundIn v bytes known n text = firstFound (knownFrom text bytes known 0 n) v
-
+-- the action that the sweep takes for a leaf with the text t, among n rows
 unfoldable pub sweptIn : Separators → Text → Text → List ℕ → ℕ → Text → Option Action
 sweptIn s t bytes known n text = forSweep s (knownFrom text bytes known 0 n) t
 

@@ -15,8 +15,8 @@ ghost use Rattle.text.specs.Text.{Text, same, between};
 ghost use Rattle.message_model.specs.Value.{isWholeWord};
 ghost use Rattle.er7_value.specs.Starts.{Starts};
 ghost use Rattle.run_model.specs.Redact as Spec;
-ghost use Rattle.redact_5_act.specs.Known.{actionOf, actionAt, valueAt, hashOf, knownFrom, Slot, Slots, GoodKnown, learnValue, learnLeaf, Learns, foundIn, sweptIn, FoundAt, Swept};
-ghost use Rattle.redact_5_act.specs.Inner.{firstMarked, RowPut};
+ghost use Rattle.redact_5_act.specs.Known.{actionOf, actionAt, valueAt, hashOf, knownFrom, Slot, Slots, GoodKnown, learnValue, learnLeaf, Learns, Swept};
+ghost use Rattle.redact_5_act.specs.Inner.{firstMarked, hasValue, RowFound, LastFound, RowPut};
 ghost use Rattle.refusal.specs.Limits.{LEARNT_MAX, TEXT_MAX};
 
 // The cells of the table of learnt values: eight for each.
@@ -146,21 +146,11 @@ fn may_have(
     starts[b]
 }
 
-// Whether the value of row k is a whole word of the bytes from index i to index e, in which the bytes that can start one are marked.
-fn has_value(
-    bytes: &[u8; 65536],
-    i: usize,
-    e: usize,
-    starts: &[bool; 256],
-    known: &[usize; KNOWN_CELLS],
-    k: usize,
-) -> bool
-    requires { ⌜ Slot (now bytes) (now known) k × (i ≤ e) × (e ≤ 65536) × Starts (between (now bytes) i e) (now starts) ⌝ }
+// Whether the value of row k is a whole word of the bytes from index i to index e.
+fn has_word(bytes: &[u8; 65536], i: usize, e: usize, known: &[usize; KNOWN_CELLS], k: usize) -> bool
+    requires { ⌜ Slot (now bytes) (now known) k × (i ≤ e) × (e ≤ 65536) ⌝ }
     ensures { λ r. ⌜ r ≡ isWholeWord (valueAt (now (bytes .entry)) (now (known .entry)) k) (between (now (bytes .entry)) i e) ⌝ }
 {
-    if !may_have(bytes, starts, known, k) {
-        return false;
-    }
     let row = k * 8;
     let start = known[row + 1];
     let end = start + known[row + 2];
@@ -199,22 +189,73 @@ fn knows(
     false
 }
 
-// The row of the first of n learnt values that is a whole word of the bytes from index i to index e, which are in lower case; or n.
+// Whether the value of row k has `least` bytes at least, and is a whole word of the bytes from index i to index e, in which the bytes that can
+// start one are marked. A value that starts with none of them is told at one look.
+fn has_value(
+    bytes: &[u8; 65536],
+    i: usize,
+    e: usize,
+    starts: &[bool; 256],
+    known: &[usize; KNOWN_CELLS],
+    least: usize,
+    k: usize,
+) -> bool
+    requires { ⌜ Slot (now bytes) (now known) k × (i ≤ e) × (e ≤ 65536) × Starts (between (now bytes) i e) (now starts) ⌝ }
+    ensures { λ r. ⌜ r ≡ hasValue (between (now (bytes .entry)) i e) (now (bytes .entry)) (now (known .entry)) least k ⌝ }
+{
+    if !may_have(bytes, starts, known, k) {
+        return false;
+    }
+    if known[k * 8 + 2] < least {
+        return false;
+    }
+    has_word(bytes, i, e, known, k)
+}
+
+// The last of the first k rows whose value has `least` bytes at least and is such a word; or k.
+fn last_found(
+    bytes: &[u8; 65536],
+    i: usize,
+    e: usize,
+    starts: &[bool; 256],
+    known: &[usize; KNOWN_CELLS],
+    least: usize,
+    k: usize,
+) -> usize
+    requires { ⌜ Slots (now bytes) (now known) k × (i ≤ e) × (e ≤ 65536) × Starts (between (now bytes) i e) (now starts) ⌝ }
+    ensures { λ r. ⌜ LastFound (between (now (bytes .entry)) i e) (now (bytes .entry)) (now (known .entry)) least k r ⌝ }
+{
+    let mut j = k;
+    while 0 < j {
+        j -= 1;
+        if has_value(bytes, i, e, starts, known, least, j) {
+            return j;
+        }
+    }
+    k
+}
+
+// The row of the longest of n learnt values that is a whole word of the bytes from index i to index e, which are in lower case, of equally
+// long ones the last; or n. Behind one that is found only longer ones are looked for.
 fn found(bytes: &[u8; 65536], i: usize, e: usize, known: &[usize; KNOWN_CELLS], n: usize) -> usize
     requires { ⌜ Slots (now bytes) (now known) n × (i ≤ e) × (e ≤ 65536) ⌝ }
-    ensures { λ r. ⌜ FoundAt (foundIn (between (now (bytes .entry)) i e) (now (bytes .entry)) (now (known .entry)) n) (now (known .entry)) n r ⌝ }
+    ensures { λ r. ⌜ RowFound (between (now (bytes .entry)) i e) (now (bytes .entry)) (now (known .entry)) 0 n r ⌝ }
 {
     let mut starts = [false; 256];
     let all = &bytes[..];
     word::mark_starts(&all[i..e], &mut starts);
-    let mut k = 0;
-    while k < n {
-        if has_value(bytes, i, e, &starts, known, k) {
-            return k;
+    let mut best = n;
+    let mut least = 0;
+    let mut k = n;
+    loop {
+        let j = last_found(bytes, i, e, &starts, known, least, k);
+        if j == k {
+            return best;
         }
-        k += 1;
+        best = j;
+        least = known[j * 8 + 2] + 1;
+        k = j;
     }
-    k
 }
 
 // The row of the learnt value for which the sweep acts on a leaf with the text t, or n; work is done in bytes behind the `used` ones of n values. A text of fewer bytes than any learnt value has none.

@@ -11,14 +11,12 @@ use Rattle.er7.specs.declared.separators.Separators.{Separators}
 use Rattle.er7_redact.specs.Action.{Action}
 use Rattle.message_model.specs.Message.{Leaf, leaf, Label, Segment, segment}
 use Rattle.message_model.specs.Value.{isEmptyOrNull, value, isWholeWord}
-use Rattle.run_model.specs.Redact.{Effect, stays, vanishes, becomes, after, act, Row, Event, learn, change, changing, isUnnamed, actOr, unnamedLeaf, changingOr, unnamedEvents, overLeaves, overSegments, leavesEvents, segmentsEvents, Known, firstFound, forSweep}
+use Rattle.run_model.specs.Redact.{Effect, stays, vanishes, becomes, after, act, Row, Event, learn, change, changing, isUnnamed, actOr, unnamedLeaf, changingOr, unnamedEvents, overLeaves, overSegments, leavesEvents, segmentsEvents, Known, longestFound, actionIn, forSweep}
+use Rattle.run_model.specs.Longest.{AllKnown}
+use Rattle.run_model.proofs.Longest.{known-map}
 use Rattle.run_model.specs.Demand.{NotIn, NotInLeaves, NotInSegments}
 
 -- ---- what events learn
-
-abbrev pub AllKnown : (Text → Type 0) → List Known → Type 0
-AllKnown Q [] = Unit {0}
-AllKnown Q (k ∷ ks) = Q (k .value) × AllKnown Q ks
 
 abbrev pub Learns : (Text → Type 0) → List Event → Type 0
 Learns Q [] = Unit {0}
@@ -41,24 +39,20 @@ known-snoc Q (x ∷ ks) k h q = (h .0, known-snoc Q ks k (h .1) q)
 
 -- ---- a sweep that finds nothing
 
-known-map : (Q R : Text → Type 0) (ks : List Known) → ((v : Text) → Q v → R v) → AllKnown Q ks → AllKnown R ks
-known-map Q R [] f h = tt
-known-map Q R (k ∷ ks) f h = (f (k .value) (h .0), known-map Q R ks f (h .1))
-
 cond-none : (b : Bool) (o : Option Action) → o ≡ none → cond b none o ≡ none
 cond-none true o e = refl
 cond-none false o e = e
 
-find-step : (b : Bool) (a : Action) (o : Option Action) → T (not b) → o ≡ none → cond b (some a) o ≡ none
-find-step true a o h e = absurd h
-find-step false a o h e = e
+find-step : (b : Bool) (o later : Option Known) → T (not b) → later ≡ none → cond b o later ≡ none
+find-step true o later h e = absurd h
+find-step false o later h e = e
+
+find-none : (w : Text) (ks : List Known) → AllKnown (λ v. T (not (isWholeWord v w))) ks → longestFound ks w ≡ none
+unfolding longestFound
+find-none w [] h = refl
+find-none w (k ∷ ks) h = find-step (isWholeWord (k .value) w) _ _ (h .0) (find-none w ks (h .1))
 
 module _ (key : ℕ) (s : Separators) where
-  find-none : (w : Text) (ks : List Known) → AllKnown (λ v. T (not (isWholeWord v w))) ks → firstFound ks w ≡ none
-  unfolding firstFound
-  find-none w [] h = refl
-  find-none w (k ∷ ks) h = find-step (isWholeWord (k .value) w) (k .action) _ (h .0) (find-none w ks (h .1))
-
   -- an unnamed leaf in which the sweep finds nothing stays, and nothing is said of it
   still : (b : Bool) (g : Label) (p : Place) (t : Text) (o : Option Action) → (T b → o ≡ none)
       → (cond b (actOr key s o t) stays ≡ stays) × (cond b (changingOr key s o g p t) [] ≡ [])
@@ -68,10 +62,10 @@ module _ (key : ℕ) (s : Separators) where
 
   still-leaf : (ks : List Known) (g : Label) (x : Leaf) (xs : List Leaf) → AllKnown (λ v. NotIn s v g x) ks
       → (unnamedLeaf key s (forSweep s ks) g x xs ≡ x) × (unnamedEvents key s (forSweep s ks) g x xs ≡ [])
-  unfolding unnamedLeaf unnamedEvents forSweep after isUnnamed
+  unfolding unnamedLeaf unnamedEvents forSweep actionIn after isUnnamed
   still-leaf ks g (leaf p n none) xs h = (refl, refl)
   still-leaf ks g (leaf p n (some t)) xs h =
-      let e = still (isUnnamed g p n) g p t (forSweep s ks t) (λ f. cond-none (isEmptyOrNull t) _ (find-none _ ks (known-map _ _ ks (λ v q. q f) h))) in
+      let e = still (isUnnamed g p n) g p t (forSweep s ks t) (λ f. cond-none (isEmptyOrNull t) _ (ap actionIn (find-none _ ks (known-map _ _ ks (λ v q. q f) h)))) in
       (ap (λ (F : Effect). leaf p n (after F t)) (e .0), e .1)
 
   still-in : (ks : List Known) (g : Label) (xs : List Leaf) → AllKnown (λ v. NotInLeaves s v g xs) ks

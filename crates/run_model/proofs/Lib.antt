@@ -1,5 +1,6 @@
 pub mod Computes
 pub mod InStep
+pub mod Longest
 pub mod Learning
 pub mod Judged
 pub mod Progress

@@ -23,7 +23,8 @@ use Rattle.run_model.specs.Redact.{Row, Event, learn, change, Known, Pro
 use Rattle.run_model.specs.Entries.{Answer, done, refused, Redaction, reported}
 use Rattle.run_model.specs.Table.{is, learntFrom, rowsOf, overflows, learntIn, eventsOf, exceeds, runRow}
 use Rattle.run_model.specs.Counts.{textAfter, RunIs}
-use Rattle.run_model.proofs.Learning.{AllKnown, known-snoc, Learns, learns-segs}
+use Rattle.run_model.specs.Longest.{AllKnown}
+use Rattle.run_model.proofs.Learning.{known-snoc, Learns, learns-segs}
 use Rattle.run_model.proofs.Judged.{Judges, or-false, or-left, or-right, and-none}
 
 -- ---- what is learnt only grows

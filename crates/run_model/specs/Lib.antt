@@ -4,3 +4,4 @@ pub mod Table
 pub mod Demand
 pub mod Counts
 pub mod Order
+pub mod Longest

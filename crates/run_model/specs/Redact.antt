@@ -268,13 +268,22 @@ unfoldable pub forPosture : Posture → Text → Option Action
 forPosture accept t = none
 forPosture (reject a) t = some a
 
--- "takes the first learnt value found in one as a whole word": "in the leaf's lower-cased value"
-unfoldable pub firstFound : List Known → Text → Option Action
-firstFound [] v = none
-firstFound (k ∷ ks) v = cond (isWholeWord (k .value) v) (some (k .action)) (firstFound ks v)
+-- of a learnt value and one that was learnt later, "the longest in bytes .. and among equal lengths the one whose first learning came last"
+unfoldable pub longerOf : Known → Option Known → Option Known
+longerOf k none = some k
+longerOf k (some later) = cond (ltb (length (later .value)) (length (k .value))) (some k) (some later)
+
+-- "the more specific one": among the learnt values found as a whole word in v, "the leaf's lower-cased value"
+unfoldable pub longestFound : List Known → Text → Option Known
+longestFound [] v = none
+longestFound (k ∷ ks) v = let later = longestFound ks v in cond (isWholeWord (k .value) v) (longerOf k later) later
+
+unfoldable pub actionIn : Option Known → Option Action
+actionIn none = none
+actionIn (some k) = some (k .action)
 
 unfoldable pub forSweep : Separators → List Known → Text → Option Action
-forSweep s ks t = cond (isEmptyOrNull t) none (firstFound ks (lowerText (value s t)))
+forSweep s ks t = cond (isEmptyOrNull t) none (actionIn (longestFound ks (lowerText (value s t))))
 
 -- the segments when the sweep starts, what was said by then, and the progress
 unfoldable pub beforeSweep : ℕ → Separators → Policy → List Segment → List Segment

@@ -3,64 +3,35 @@ use Rattle.redact_5_act.proofs.known.has_value.Statement.{statement}
 use Rattle.redact_5_act.proofs.known.has_value.Tie as tie
 use mathlib.Core.Path.{sym, _∙_}
 use borrow.Author.Tests.{not-true}
-use Rattle.text.specs.Text.{between}
-use Rattle.redact_5_act.specs.Known.{valueAt}
-use Rattle.redact_5_act.proofs.Knowing.{not-marked, word-of-part}
+use Rattle.redact_5_act.proofs.Knowing.{not-marked, has-unmarked, has-shorter, has-long}
+use native.Mathlib.Omega.{arith}
 
 may-have-requires : tie.Need-may-have-requires
 may-have-requires c κs = search needs
 
 returns : tie.Need-returns
-returns c = not-marked _ (c .before .before .pre .0) (c .before .before .pre .3) (sym (c .before .may-have .ensures) ∙ not-true _ (c .if1 .taken))
+returns c = sym (has-unmarked _ _ _ _ _ (sym (not-marked _ (c .before .before .pre .0) (c .before .before .pre .3) (sym (c .before .may-have .ensures) ∙ not-true _ (c .if1 .taken)))))
 
-mul-row : tie.Need-mul-row
-mul-row c = search needs
+mul-if2 : tie.Need-mul-if2
+mul-if2 c = search needs
 
-add-start : tie.Need-add-start
-add-start c = search needs
+add-if2 : tie.Need-add-if2
+add-if2 c = search needs
 
-mul-start : tie.Need-mul-start
-mul-start c = search needs
+mul-if2-2 : tie.Need-mul-if2-2
+mul-if2-2 c = search needs
 
-element-copy-out-start : tie.Need-element-copy-out-start
-element-copy-out-start c = search needs
-
-add-end : tie.Need-add-end
-add-end c = search needs
-
-mul-end : tie.Need-mul-end
-mul-end c = search needs
-
-element-copy-out-end : tie.Need-element-copy-out-end
-element-copy-out-end c = search needs
-
-add-end-2 : tie.Need-add-end-2
-add-end-2 c = search needs
-
-sub-is-whole-word : tie.Need-sub-is-whole-word
-sub-is-whole-word c = search needs
-
-part-is-whole-word-start : tie.Need-part-is-whole-word-start
-part-is-whole-word-start c = search needs
-
-part-is-whole-word-end : tie.Need-part-is-whole-word-end
-part-is-whole-word-end c = search needs
-
-sub-is-whole-word-2 : tie.Need-sub-is-whole-word-2
-sub-is-whole-word-2 c = search needs
-
-part-is-whole-word-start-2 : tie.Need-part-is-whole-word-start-2
-part-is-whole-word-start-2 c = search needs
-
-part-is-whole-word-end-2 : tie.Need-part-is-whole-word-end-2
-part-is-whole-word-end-2 c = search needs
-
-is-whole-word-requires : tie.Need-is-whole-word-requires
-is-whole-word-requires c κs = search needs
+element-copy-out-if2 : tie.Need-element-copy-out-if2
+element-copy-out-if2 c = search needs
 
 returns-2 : tie.Need-returns-2
-unfolding valueAt between
-returns-2 c = word-of-part _ _ _ _ (c .is-whole-word .ensures)
+returns-2 c = sym (has-shorter _ _ _ _ _ (c .if2 .taken))
+
+has-word-requires : tie.Need-has-word-requires
+has-word-requires c κs = search needs
+
+returns-3 : tie.Need-returns-3
+returns-3 c = c .has-word .ensures ∙ has-long _ _ _ _ _ (omega arith)
 
 pub has-value-spec : {M : Type 1} → statement M
 has-value-spec =
@@ -68,19 +39,10 @@ has-value-spec =
     (tie.spec
     may-have-requires
     returns
-    mul-row
-    add-start
-    mul-start
-    element-copy-out-start
-    add-end
-    mul-end
-    element-copy-out-end
-    add-end-2
-    sub-is-whole-word
-    part-is-whole-word-start
-    part-is-whole-word-end
-    sub-is-whole-word-2
-    part-is-whole-word-start-2
-    part-is-whole-word-end-2
-    is-whole-word-requires
-    returns-2)
+    mul-if2
+    add-if2
+    mul-if2-2
+    element-copy-out-if2
+    returns-2
+    has-word-requires
+    returns-3)
