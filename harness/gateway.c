@@ -296,9 +296,12 @@ static void redacts(void) {
     refused("redact: short output", redact_on(WIDE - 1, REPORT, WIDE, LOG, LOG_POLICY, 0), ER7_SHORT_BUFFER, 0);
     refused("redact: short scratch", redact_on(WIDE, REPORT, WIDE - 1, LOG, LOG_POLICY, 0), ER7_SHORT_BUFFER, 0);
     refused("redact: no buffers", redact_on(0, 0, 0, LOG, LOG_POLICY, 0), ER7_SHORT_BUFFER, 0);
-    refused("redact: no message", redact(NULL, LOG_POLICY), ER7_BAD_HEADER, 0);
-    refused("redact: no message, no policy, no report", redact_on(WIDE, 0, WIDE, NULL, NULL, 0), ER7_BAD_HEADER, 0);
-    refused("redact: the policy's line, before the message", redact(NULL, "PID-3 mask\nPID-5[1 clear\n"), ER7_BAD_PATH, 2);
+    reported("redact: no message", redact(NULL, LOG_POLICY), "", "", 0);
+    reported("redact: no message, no policy, no report", redact_on(WIDE, 0, WIDE, NULL, NULL, 0), "", "", 0);
+    refused("redact: no message, short output", redact_on(WIDE - 1, REPORT, WIDE, NULL, LOG_POLICY, 0), ER7_SHORT_BUFFER, 0);
+    refused("redact: no message, the policy's line", redact(NULL, "PID-3 mask\nPID-5[1 clear\n"), ER7_BAD_PATH, 2);
+    refused("redact: the policy's line, before the message", redact("x", "PID-3 mask\nPID-5[1 clear\n"), ER7_BAD_PATH, 2);
+    refused("redact: a message of one CR", redact("\r", LOG_POLICY), ER7_BAD_HEADER, 0);
     refused("redact: foreign byte", redact("MSH|^~\\&|A\n", LOG_POLICY), ER7_FOREIGN_BYTE, 0);
     refused("redact: bad segment", redact(LOG "pid|1\r", LOG_POLICY), ER7_BAD_SEGMENT, 0);
     char *t = repeated("MSH|^~\\&|A\r", "OBX|1\r", 256);

@@ -135,6 +135,9 @@ pub fn short_inputs(mut call: impl FnMut(Entry)) {
     for (i, leaf) in all_of(&["ann", "lee", " ", "-", "x"], 5).iter().enumerate() {
         call(redact(&format!("MSH|^~\\&\rPID|Ann|Lee|ann lee|lee-ann\rOBX|{leaf}"), learning[i % 4]));
     }
+    for policy in all_of(&directives, 2) {
+        call(redact("", &policy));
+    }
 }
 
 // ---- random inputs
@@ -524,6 +527,13 @@ pub fn random_input(r: &mut Random) -> Entry {
             _ => r.below(6) as u64,
         };
         return Entry::Builtin { number };
+    }
+    if limits == 7 {
+        let mut policy = if r.chance(20) { builtin(r) } else { policy(r, 7) };
+        if r.chance(20) {
+            damage(r, &mut policy);
+        }
+        return Entry::Redact { message: Vec::new(), policy, key };
     }
     let kind = r.below(100);
     let mut policy_text = policy(r, if kind < 62 { 7 } else { 9 });

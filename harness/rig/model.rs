@@ -267,6 +267,10 @@ pub fn read_message(t: &[u8]) -> Result<Message, u32> {
     if !t.iter().all(|b| matches!(b, 0x09 | 0x0d | 0x20..=0x7e)) {
         return Err(3);
     }
+    if t.is_empty() {
+        reach("a message of no bytes");
+        return Ok(Message { delimiters: [0; 5], segments: Vec::new(), last_cr: false });
+    }
     if t.len() < 8 || &t[..3] != b"MSH" {
         return Err(4);
     }

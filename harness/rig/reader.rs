@@ -27,6 +27,10 @@ pub fn read(bytes: &[u8]) -> Result<(Message, bool), u32> {
         return Err(3);
     }
     let text = std::str::from_utf8(bytes).map_err(|_| 3_u32)?;
+    // No bytes: a message without segments.
+    if text.is_empty() {
+        return Ok((Message { separators: Separators::default(), segments: Vec::new() }, false));
+    }
     let line = text.split('\r').next().unwrap_or("");
     if !line.starts_with("MSH") || line.len() < 8 {
         return Err(4);

@@ -1,24 +1,23 @@
 -- A message as a whole. Assumes nothing.
 use mathlib.Core.Path.{_≡_, refl, sym, ap, _∙_}
-use mathlib.Core.Bool.{Bool, true, false}
+use mathlib.Core.Bool.{Bool, true, false, not, cond}
 use mathlib.Core.List.{List, [], _∷_}
-use mathlib.Core.Option.{Option}
+use mathlib.Core.Option.{Option, some}
 use Prim.Native.Nat.{ℕ, _-_, _≤_, _<_}
 use native.Mathlib.Omega.{arith}
 use borrow.Author.Tests.{lt-ltb, le-ltb}
-use lib.ListN.{length, take}
+use lib.ListN.{length, take, set}
 use lib.Seq.{length-take-le}
 use Rattle.text.specs.Text.{Text}
-use Rattle.text.proofs.Laws.{clash}
 use Rattle.refusal.specs.declared.Refusal.{Refusal}
 use Rattle.refusal.specs.declared.Refusal.the-variants.{TooLong, ForeignByte, BadHeader}
 use Rattle.refusal.specs.Refusal.{tooLong, noForeign}
 use Rattle.refusal.specs.declared.input.Input.the-variants as Inputs
 use Rattle.refusal.specs.Limits.{INPUT_MAX}
 use Rattle.er7.specs.declared.separators.Separators.{Separators}
-use Rattle.message_model.specs.Message.{Message, separatorsOf, isHeader, endsInCR, withoutLastCR, segmentLines, firstOf, messageFault, messageOf}
-use Rattle.message_model.proofs.Faultless.{header-line}
-use Rattle.er7_table.specs.Table.{placeAt}
+use Rattle.message_model.specs.Message.{Message, separatorsOf, isHeader, endsInCR, withoutLastCR, segmentLines, messageLines, firstOf, isOpened, segments, segmentsFault, messageFault, messageOf}
+use Rattle.message_model.proofs.Faultless.{header-line, lines, lines-are}
+use Rattle.er7_table.specs.Table.{cell, placeAt, firstLeaf, segmentsFrom, listOf}
 use Rattle.er7_table.proofs.Laws.{segments-in-store}
 use Rattle.er7_table.proofs.Reading.{within-more}
 use Rattle.er7_message.specs.declared.message.ParsedMessage.{ParsedMessage}
@@ -76,10 +75,47 @@ parsed-over {t} store {f} {m} {segs} {cells} {a} q h p = record { is = p .is; ta
 
 -- ---- the message
 
-pub cr-long : (t : Text) {d : Bool} → d ≡ endsInCR t → d ≡ true → 1 ≤ length t
-unfolding endsInCR
-cr-long [] q z = clash (sym z ∙ q)
-cr-long (x ∷ t) q z = omega arith
+-- ---- no bytes
+
+no-leaf : (segs : List ℕ) → firstLeaf (set segs 1 0) 0 ≡ 0
+unfolding firstLeaf cell
+no-leaf [] = refl
+no-leaf (x ∷ []) = refl
+no-leaf (x ∷ y ∷ segs) = refl
+
+pub nothing-read : (segs cells : List ℕ)
+    → ParsedAs [] (messageFault []) (messageOf []) (set segs 1 0) cells (Read (record { separators = separatorsOf []; segments = 0; leaves = 0; «last_cr» = false }))
+unfolding messageFault messageOf messageLines isOpened firstOf endsInCR segmentsFault segments separatorsOf tooLong noForeign faultOf segmentsFrom listOf
+nothing-read segs cells = record {
+  is = refl;
+  tables = record {
+    separators = refl;
+    last = refl;
+    segments = refl;
+    good = record { rows = omega arith; room = omega arith; ends = λ i h. absurd (omega arith) };
+    placed = record { within = λ i h. absurd (omega arith) };
+    segmented = record {
+      rows = omega arith;
+      none-before = no-leaf segs;
+      order = λ i j h l. let a : i ≡ 0 = omega arith in let b : j ≡ 0 = omega arith in rw (a, b) (omega arith);
+      all = no-leaf segs;
+    };
+    segments-most = omega arith;
+    leaves-most = omega arith;
+  };
+}
+
+pub message-empty : (t : Text) → length t ≡ 0 → {segs cells : List ℕ} {a : ParsedMessage} → ParsedAs [] (messageFault []) (messageOf []) segs cells a
+    → ParsedAs t (messageFault t) (messageOf t) segs cells a
+message-empty [] e p = p
+message-empty (x ∷ t) e p = absurd (omega arith)
+
+-- ---- some bytes
+
+lines-fault : (t : Text) → (length t ≡ 0 → ⊥)
+    → cond (not (isOpened (messageLines t))) (some BadHeader) (segmentsFault (separatorsOf (firstOf (messageLines t))) 0 0 (messageLines t)) ≡ linesFault (withoutLastCR t)
+unfolding isOpened firstOf linesFault faultBy
+lines-fault t h = let f = lines [] (withoutLastCR t) in rw (lines-are t h, f .are)
 
 module _ (t : Text) where
   pub message-long : INPUT_MAX < length t → (m : Message) (segs cells : List ℕ) → ParsedAs t (messageFault t) m segs cells (Refused TooLong)
@@ -91,14 +127,14 @@ module _ (t : Text) where
     unfolding messageFault tooLong faultOf
     message-foreign e m segs cells = record { is = rw (le-ltb INPUT_MAX (length t) h, sym q ∙ e); tables = tt }
 
-    module _ (z : b ≡ true) where
+    module _ (z : b ≡ true) (some-bytes : length t ≡ 0 → ⊥) where
       fault-is : messageFault t ≡ linesFault (withoutLastCR t)
-      unfolding messageFault tooLong linesFault faultBy
-      fault-is = rw (le-ltb INPUT_MAX (length t) h, sym q ∙ z)
+      unfolding messageFault tooLong
+      fault-is = rw (le-ltb INPUT_MAX (length t) h, sym q ∙ z) (lines-fault t some-bytes)
 
       message-is : messageOf t ≡ linesMessage (endsInCR t) (withoutLastCR t)
       unfolding messageOf linesMessage messageBy
-      message-is = refl
+      message-is = rw (lines-are t some-bytes)
 
       module _ {d : Bool} (w : d ≡ endsInCR t) {segs cells : List ℕ} {a : ParsedMessage} where
         pub message-ended : d ≡ true → ParsedAs (take (length t - 1 - 0) t) (linesFault (take (length t - 1 - 0) t)) (linesMessage true (take (length t - 1 - 0) t)) segs cells a

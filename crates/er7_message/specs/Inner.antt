@@ -11,7 +11,9 @@ use Rattle.refusal.specs.declared.Refusal.{Refusal}
 use Rattle.refusal.specs.declared.Refusal.the-variants.{BadHeader}
 use Rattle.refusal.specs.Limits.{LEAVES_MAX, SEGMENTS_MAX}
 use Rattle.er7.specs.declared.separators.Separators.{Separators}
-use Rattle.message_model.specs.Message.{Message, separatorsOf, isHeader, segmentLines, firstOf, leavesOf, count, segments, segmentsFault}
+use Rattle.message_model.specs.Message.{Message, separatorsOf, isHeader, segmentLines, firstOf, leavesOf, count, segments, segmentsFault, messageOf, messageFault}
+use Rattle.er7_message.specs.declared.message.ParsedMessage.{ParsedMessage}
+use Rattle.er7_message.specs.Parsed.{ParsedAs}
 use Rattle.er7_table.specs.Table.{cell, listOf, Good, Placed, firstLeaf, nameAt, labelAt, segmentsFrom}
 use Rattle.er7_table.specs.Filling.{Filled, LeafRoom}
 
@@ -42,6 +44,10 @@ linesFault t =
 
 unfoldable pub linesMessage : Bool → Text → Message
 linesMessage last t = messageBy (separatorsOf (firstOf (segmentLines [] t))) last t
+
+-- the answer to a message of no bytes, whatever the table of leaves holds
+abbrev pub NothingRead : List ℕ → ParsedMessage → Type 0
+NothingRead segs a = (cells : List ℕ) → ParsedAs [] (messageFault []) (messageOf []) segs cells a
 
 -- the first line of t, which ends at index e, is a header that names s
 pub record HeaderEnd (s : Separators) (t : Text) (e : ℕ) : Type 0 where

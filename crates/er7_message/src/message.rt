@@ -24,7 +24,7 @@ ghost use Rattle.message_model.specs.Message.{isHeaderName, endsInCR, isNameByt
 ghost use Rattle.er7_table.specs.Table.{nameAt};
 ghost use Rattle.er7_table.specs.Filling.{LeafRoom, LeavesRead};
 ghost use Rattle.er7_message.specs.Parsed.{ParsedAs};
-ghost use Rattle.er7_message.specs.Inner.{line, LineEnd, names, Numbered, SegmentRead, Reading, HeaderEnd, faultBy, messageBy, linesFault, linesMessage};
+ghost use Rattle.er7_message.specs.Inner.{line, LineEnd, names, Numbered, SegmentRead, Reading, HeaderEnd, faultBy, messageBy, linesFault, linesMessage, NothingRead};
 ghost use Rattle.refusal.specs.Limits.{LEAVES_MAX, SEGMENTS_MAX};
 
 // A message that was read: its delimiters, how many segments and leaves stand in the tables, and whether its last byte is a CR.
@@ -283,6 +283,27 @@ fn parse_lines(
     read_lines(text, e, s, last, segs, cells)
 }
 
+// Reads a message of no bytes: it has no segments, hence no leaves and no delimiters.
+fn read_nothing(segs: &mut [usize; 2056]) -> ParsedMessage
+    ensures { λ r. ⌜ NothingRead (now (segs .exit)) r ⌝ }
+{
+    segs[1] = 0;
+    let none = Separators {
+        field: 0,
+        component: 0,
+        repetition: 0,
+        escape: 0,
+        subcomponent: 0,
+    };
+    let empty = Layout {
+        separators: none,
+        segments: 0,
+        leaves: 0,
+        last_cr: false,
+    };
+    ParsedMessage::Read(empty)
+}
+
 // Reads a message into the two tables, or says what refuses it.
 pub fn parse(text: &[u8], segs: &mut [usize; 2056], cells: &mut [usize]) -> ParsedMessage
     requires { ⌜ LeafRoom (now cells) (length (now text)) ⌝ }
@@ -293,6 +314,9 @@ pub fn parse(text: &[u8], segs: &mut [usize; 2056], cells: &mut [usize]) -> Pars
     }
     if !no_foreign(Input::Message, text) {
         return ParsedMessage::Refused(Refusal::ForeignByte);
+    }
+    if text.len() == 0 {
+        return read_nothing(segs);
     }
     if ends_in_cr(text) {
         let n = text.len() - 1;

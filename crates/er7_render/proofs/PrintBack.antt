@@ -12,7 +12,7 @@ use Rattle.text.specs.Text.{Text, bytes, isDigit, isUpper, all, Wrote}
 use Rattle.text.proofs.Laws.{split, and-left, and-right, at-most}
 use Rattle.er7.specs.declared.separators.Separators.{Separators}
 use Rattle.message_model.specs.Message.{Message, Segment, segment, isNameByte, isName, isNamed, segments, segmentsFault, messageFault, messageOf, printSegments, printMessage, separatorsOf}
-use Rattle.message_model.proofs.Faultless.{header-line, named-line, faultless-lines, faultless, segments-are}
+use Rattle.message_model.proofs.Faultless.{header-line, named-line, faultless-lines, faultless, segments-are, no-segments}
 use Rattle.message_model.proofs.PrintBack.{message-prints}
 use Rattle.er7_table.specs.Table.{listOf, nameAt, labelAt, BytesNamed, AllNamed, segmentAt, segmentsFrom}
 use Rattle.er7_table.proofs.Laws.{segments-in-store}
@@ -73,9 +73,10 @@ others-named s (l ∷ ls) seen k n h e =
 
 message-named : (t : Text) → messageFault t ≡ none → allNames (messageOf t .segments) ≡ true
 unfolding segments
-message-named t e =
-    let f = faultless t e in
-    rw (segments-are t f, header-name (take 3 (f .line)) (header-line (f .line) (f .header) .name))
+message-named [] e = rw no-segments
+message-named (x ∷ t) e =
+    let f = faultless x t e in
+    rw (segments-are (x ∷ t) f, header-name (take 3 (f .line)) (header-line (f .line) (f .header) .name))
     (others-named (separatorsOf (f .line)) (f .others) (take 3 (f .line) ∷ []) 1 _ (omega arith) (faultless-lines (separatorsOf (f .line)) 0 0 (f .line) (f .others) (f .no-fault) .others))
 
 -- ---- a message that was read

@@ -245,7 +245,7 @@ table =
     ∷ whole-word "a-a" "b a-a" true
     ∷ whole-word "a-a" "xa-a-a" true
     ∷ whole-word "a-a" "xa-ax" false
-    ∷ message-fault "" 4
+    ∷ message-fault "" 0
     ∷ message-fault "\r" 4
     ∷ message-fault "MSH|^~\\&" 0
     ∷ message-fault "MSH|^~\\&\r\r" 5
@@ -289,6 +289,8 @@ table =
     ∷ redacts "MSH|^~\\&|A\rPID|1||4412\rOBX|1|NM|KCAL||4412 kcal\r" "PID-3 mask\nknown-values on\n" 0 "MSH|^~\\&|A\rPID|1||****\rOBX|1|NM|KCAL||*********\r" "PID[1]-3[1].1.1 mask *\nOBX[1]-5[1].1.1 mask *\n" 2
     ∷ redacts "MSH|^~\\&|A\rPID|1||ann|Ann Lee|to ANN LEE|to ann lee, too\r" "PID-3 mask\nPID-4 first 10\n" 0 "MSH|^~\\&|A\rPID|1||***|Ann Lee|to ANN LEE|to ann lee\r" "PID[1]-3[1].1.1 mask *\nPID[1]-6[1].1.1 first 10\n" 2
     ∷ redacts "MSH|^~\\&|A\rPID|1||ann|Lee|lee, ann\r" "PID-3 mask\nPID-4 clear\n" 0 "MSH|^~\\&|A\rPID|1||***||\r" "PID[1]-3[1].1.1 mask *\nPID[1]-4[1].1.1 clear\nPID[1]-5[1].1.1 clear\n" 3
+    ∷ redacts "" "PID-3 mask\n" 0 "" "" 0
+    ∷ redact-refused "" "PID-3 mask\nPID-0 clear\n" 8 2
     ∷ key-is "0" 0
     ∷ key-is "007\n" 7
     ∷ key-is "18446744073709551615" 18446744073709551615

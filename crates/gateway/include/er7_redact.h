@@ -54,7 +54,7 @@ enum er7_number {
     ER7_SHORT_BUFFER = 1,      /* output or scratch below ER7_BUFFER_MIN bytes */
     ER7_TOO_LONG = 2,          /* message, payload or policy above ER7_INPUT_MAX bytes */
     ER7_FOREIGN_BYTE = 3,      /* a byte that may not stand there */
-    ER7_BAD_HEADER = 4,        /* no bytes, or the message does not open with MSH and five delimiters */
+    ER7_BAD_HEADER = 4,        /* the message has bytes and does not open with MSH and five delimiters */
     ER7_BAD_SEGMENT = 5,       /* empty, wrongly named, or a second MSH, any FHS, BHS */
     ER7_TOO_MANY = 6,          /* over 256 segments, 4,096 leaves, 128 rules; line over 255 bytes, word over 64, rest over 80 */
     ER7_BAD_ACTION = 7,        /* missing or unreadable, in a rule or directive */
@@ -69,7 +69,8 @@ enum er7_number {
 
 /*
  * Redacts a message. Output gets its text; report gets a row for each change: the full path, a blank, the action, LF; *rows is their
- * number. The key makes pseudonyms: the same value under the same key gets the same one.
+ * number. The key makes pseudonyms: the same value under the same key gets the same one. A message of no bytes, which may be NULL, is
+ * legal with any policy that reads: no text, no report, no rows.
  * Refusals: 1 to 12.
  */
 uint32_t er7_redact(const uint8_t *message, size_t message_size,

@@ -92,10 +92,10 @@ header-good : (l : Text) → HeaderLine l → GoodSeparators (separatorsOf l)
 unfolding separatorsOf
 header-good l h = all-good (separatorsOf l) (h .delimit)
 
-pub good-separators : (t : Text) → messageFault t ≡ none → GoodSeparators (messageOf t .separators)
-good-separators t e =
-    let f = faultless t e in
-    rw (separators-are t f) (header-good (f .line) (header-line (f .line) (f .header)))
+pub good-separators : (x : ℕ) (t : Text) → messageFault (x ∷ t) ≡ none → GoodSeparators (messageOf (x ∷ t) .separators)
+good-separators x t e =
+    let f = faultless x t e in
+    rw (separators-are (x ∷ t) f) (header-good (f .line) (header-line (f .line) (f .header)))
 
 -- ---- a byte that is none of the five
 

@@ -17,7 +17,7 @@ use Rattle.refusal.specs.Refusal.{tooLong, noForeign}
 use Rattle.refusal.specs.declared.input.Input.the-variants as Inputs
 use Rattle.refusal.specs.Limits.{LEAVES_MAX, SEGMENTS_MAX}
 use Rattle.er7.specs.declared.separators.Separators.{Separators}
-use Rattle.message_model.specs.Message.{mayDelimitAll, separatorsOf, isHeaderName, isHeader, endsInCR, withoutLastCR, segmentLines, firstOf, leavesOf, isNameByte, isName, isNamed, segments, messageOf, segmentsFault, messageFault}
+use Rattle.message_model.specs.Message.{mayDelimitAll, separatorsOf, isHeaderName, isHeader, endsInCR, withoutLastCR, segmentLines, messageLines, firstOf, isOpened, leavesOf, isNameByte, isName, isNamed, segments, messageOf, segmentsFault, messageFault}
 
 -- a test that refuses has passed
 passed : (b : Bool) (r : Refusal) (o : Option Refusal) → cond b (some r) o ≡ none → (b ≡ false) × (o ≡ none)
@@ -118,28 +118,39 @@ lines w (x ∷ t) = go (eqb x 0x0d) (lines (w ++ x ∷ []) t)
 
 -- ---- a message
 
+pub not-too-long : (t : Text) → messageFault t ≡ none → tooLong t ≡ false
+unfolding messageFault
+not-too-long t e = passed (tooLong t) _ _ e .0
+
+-- one of no bytes has no segments
+pub no-segments : messageOf [] .segments ≡ []
+unfolding messageOf messageLines segments
+no-segments = refl
+
+pub lines-are : (t : Text) → (length t ≡ 0 → ⊥) → messageLines t ≡ segmentLines [] (withoutLastCR t)
+unfolding messageLines
+lines-are [] h = absurd (h refl)
+lines-are (x ∷ t) h = refl
+
+-- one that has bytes
 pub record Faultless (t : Text) : Type 0 where
   pub line : Text
   pub others : List Text
-  pub are : segmentLines [] (withoutLastCR t) ≡ line ∷ others
-  pub not-too-long : tooLong t ≡ false
-  pub allowed : noForeign Inputs.Message t ≡ true
+  pub are : messageLines t ≡ line ∷ others
   pub header : isHeader line ≡ true
   pub no-fault : segmentsFault (separatorsOf line) 0 0 (line ∷ others) ≡ none
 
-pub faultless : (t : Text) → messageFault t ≡ none → Faultless t
-unfolding messageFault firstOf
-faultless t e =
-    let f = lines [] (withoutLastCR t) in
-    let a = passed (tooLong t) _ _ e in
-    let b = passed (not (noForeign Inputs.Message t)) _ _ (a .1) in
+pub faultless : (x : ℕ) (t : Text) → messageFault (x ∷ t) ≡ none → Faultless (x ∷ t)
+unfolding messageFault messageLines firstOf isOpened
+faultless x t e =
+    let f = lines [] (withoutLastCR (x ∷ t)) in
+    let a = passed (tooLong (x ∷ t)) _ _ e in
+    let b = passed (not (noForeign Inputs.Message (x ∷ t))) _ _ (a .1) in
     let c = passed (not (isHeader (f .line))) _ (segmentsFault (separatorsOf (f .line)) 0 0 (f .line ∷ f .others)) (rw (f .are) at (b .1)) in
     record {
       line = f .line;
       others = f .others;
       are = f .are;
-      not-too-long = a .0;
-      allowed = not-false _ (b .0);
       header = not-false _ (c .0);
       no-fault = c .1;
     }

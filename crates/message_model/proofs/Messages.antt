@@ -12,7 +12,7 @@ use Rattle.text.specs.Text.{Text, bytes}
 use Rattle.text.proofs.Laws.{by-cond}
 use Rattle.er7.specs.declared.message.Place.{Place}
 use Rattle.er7.specs.declared.separators.Separators.{Separators}
-use Rattle.message_model.specs.Message.{Leaf, leaf, Label, Segment, segment, isHeaderName, separatorsOf, firstOf, segmentLines, withoutLastCR, endsLeaf, next, leaves, leavesBehind, atField, headerLeaves, leavesOf, count, segments, messageOf, segmentsFault, messageFault}
+use Rattle.message_model.specs.Message.{Leaf, leaf, Label, Segment, segment, isHeaderName, separatorsOf, firstOf, messageLines, endsLeaf, next, leaves, leavesBehind, atField, headerLeaves, leavesOf, count, segments, messageOf, segmentsFault, messageFault}
 use Rattle.message_model.proofs.Places.{pieceOf, next-piece}
 use Rattle.message_model.proofs.Faultless.{HeaderLine, header-line, named-line, faultless-lines, faultless, separators-are, segments-are}
 use Rattle.message_model.specs.Chain.{Piece, a-field, nextPlace, Chain, Chained}
@@ -59,10 +59,10 @@ header-first s l ls h e = record {
   no-other = no-other-header s (take 3 l ∷ []) ls 1 _ (omega arith) (faultless-lines s 0 0 l ls e .others);
 }
 
-pub leaves-of-header : (t : Text) → messageFault t ≡ none → HeaderFirst (messageOf t .separators) (messageOf t .segments)
-leaves-of-header t e =
-    let f = faultless t e in
-    rw (separators-are t f, segments-are t f) (header-first _ (f .line) (f .others) (header-line (f .line) (f .header)) (f .no-fault))
+pub leaves-of-header : (x : ℕ) (t : Text) → messageFault (x ∷ t) ≡ none → HeaderFirst (messageOf (x ∷ t) .separators) (messageOf (x ∷ t) .segments)
+leaves-of-header x t e =
+    let f = faultless x t e in
+    rw (separators-are (x ∷ t) f, segments-are (x ∷ t) f) (header-first _ (f .line) (f .others) (header-line (f .line) (f .header)) (f .no-fault))
 
 -- ---- where the leaves stand
 
@@ -95,4 +95,4 @@ module _ (s : Separators) where
 -- of every message, also of one that is refused
 pub message-chains : (t : Text) → Chained (messageOf t .segments)
 unfolding messageOf
-message-chains t = segments-chain (separatorsOf (firstOf (segmentLines [] (withoutLastCR t)))) [] (segmentLines [] (withoutLastCR t))
+message-chains t = segments-chain (separatorsOf (firstOf (messageLines t))) [] (messageLines t)

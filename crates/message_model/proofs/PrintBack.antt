@@ -16,7 +16,7 @@ use Rattle.er7.specs.declared.message.Place.{Place}
 use Rattle.er7.specs.declared.separators.Separators.{Separators}
 use Rattle.message_model.specs.Message.{Leaf, leaf, Label, segment, isHeaderName, separatorsOf, isHeader, endsInCR, withoutLastCR, segmentLines, endsLeaf, next, leaves, leavesBehind, atField, headerLeaves, leavesOf, isNamed, count, segments, messageOf, segmentsFault, messageFault, touchable, delimiter, lead, printLeaves, printSegments, printMessage}
 use Rattle.message_model.proofs.Places.{Positive, positive-field, positive-next, pieceOf, next-piece, delimiter-next}
-use Rattle.message_model.proofs.Faultless.{five-bytes, header-line, named-line, faultless-lines, Lines, lines, faultless, separators-are, segments-are, last-is}
+use Rattle.message_model.proofs.Faultless.{five-bytes, header-line, named-line, faultless-lines, Lines, lines, faultless, separators-are, segments-are, last-is, no-segments, lines-are}
 use Rattle.message_model.specs.Chain.{Piece, a-field, a-repetition, a-component, a-subcomponent, nextPlace}
 
 -- ---- leaves
@@ -183,9 +183,11 @@ module _ (s : Separators) (cr : Bool) where
       (others-print ls (take 3 l ∷ []) 1 _ (omega arith) (faultless-lines s 0 0 l ls e .others))
 
 pub message-prints : (t : Text) → messageFault t ≡ none → printMessage (messageOf t) ≡ t
-unfolding printMessage
-message-prints t e =
-    let f = faultless t e in
+unfolding printMessage printSegments
+message-prints [] e = rw no-segments
+message-prints (x ∷ u) e =
+    let t = x ∷ u in
+    let f = faultless x u e in
     rw (separators-are t f, segments-are t f, last-is t)
     (all-print (separatorsOf (f .line)) (endsInCR t) (f .line) (f .others) (f .header) refl (f .no-fault)
-    ∙ ap (joined (endsInCR t)) (sym (f .are)) ∙ lines-join (endsInCR t) [] (withoutLastCR t) ∙ last-back t)
+    ∙ ap (joined (endsInCR t)) (sym (f .are) ∙ lines-are t (λ z. omega arith)) ∙ lines-join (endsInCR t) [] (withoutLastCR t) ∙ last-back t)

@@ -76,9 +76,19 @@ unfoldable pub segmentLines : Text → Text → List Text
 segmentLines w [] = w ∷ []
 segmentLines w (x ∷ t) = let more = segmentLines [] t in cond (eqb x 0x0d) (w ∷ more) (segmentLines (w ++ x ∷ []) t)
 
+-- "An idle console sends nothing": a message of no bytes has no lines
+unfoldable pub messageLines : Text → List Text
+messageLines [] = []
+messageLines (x ∷ t) = segmentLines [] (withoutLastCR (x ∷ t))
+
 unfoldable pub firstOf : List Text → Text
 firstOf [] = []
 firstOf (l ∷ ls) = l
+
+-- "Number 4 keeps only its other cases": the first line, where there is one, is a header
+unfoldable pub isOpened : List Text → Bool
+isOpened [] = true
+isOpened (l ∷ ls) = isHeader l
 
 -- ---- leaves: "Every split of an empty text yields one empty piece; a bare name has no fields"
 
@@ -148,7 +158,7 @@ segments s seen (l ∷ ls) =
 -- the message of the bytes t
 unfoldable pub messageOf : Text → Message
 messageOf t =
-    let ls = segmentLines [] (withoutLastCR t) in
+    let ls = messageLines t in
     record {
       separators = separatorsOf (firstOf ls);
       segments = segments (separatorsOf (firstOf ls)) [] ls;
@@ -168,10 +178,10 @@ segmentsFault s k n (l ∷ ls) =
 
 unfoldable pub messageFault : Text → Option Refusal
 messageFault t =
-    let ls = segmentLines [] (withoutLastCR t) in
+    let ls = messageLines t in
     cond (tooLong t) (some TooLong)
     (cond (not (noForeign Inputs.Message t)) (some ForeignByte)
-    (cond (not (isHeader (firstOf ls))) (some BadHeader)
+    (cond (not (isOpened ls)) (some BadHeader)
     (segmentsFault (separatorsOf (firstOf ls)) 0 0 ls)))
 
 -- ---- printing

@@ -16,7 +16,7 @@ use Rattle.refusal.specs.declared.Refusal.{Refusal}
 use Rattle.refusal.specs.declared.Refusal.the-variants.{TooLong, ReportTooLong}
 use Rattle.refusal.specs.Limits.{INPUT_MAX, LEAVES_MAX, TEXT_MAX}
 use Rattle.message_model.specs.Message.{messageOf, messageFault}
-use Rattle.message_model.proofs.Faultless.{faultless}
+use Rattle.message_model.proofs.Faultless.{not-too-long}
 use Rattle.message_model.proofs.PrintBack.{message-prints}
 use Rattle.message_model.proofs.Messages.{message-chains}
 use Rattle.policy_model.specs.Policy as Q
@@ -53,7 +53,7 @@ wrote-taken {d} {d′} {w} {n} p = let e : n ≡ length w = omega (arith, p .end
 -- a message without fault is short
 not-long : (t : Text) → messageFault t ≡ none → length t ≤ INPUT_MAX
 unfolding tooLong
-not-long t e = ltb-false INPUT_MAX (length t) (faultless t e .not-too-long)
+not-long t e = ltb-false INPUT_MAX (length t) (not-too-long t e)
 
 module _ {message : Text} {segs cells : List ℕ} {a : ParsedMessage} (p : ParsedAs message (messageFault message) (messageOf message) segs cells a) where
   pub no-fault : {layout : Layout} → a ≡ Parsed.Read layout → messageFault message ≡ none

@@ -17,7 +17,7 @@ use Rattle.er7_redact.specs.Action.{Action, isNullAction}
 use Rattle.er7_redact.specs.Policy.{Rule}
 use Rattle.message_model.specs.Message.{Leaf, leaf, Label, Segment, segment, endsLeaf, next, leaves, leavesBehind, atField, isHeaderName, headerLeaves, leavesOf, isNamed, segments, messageOf, segmentsFault, messageFault, touchable}
 use Rattle.message_model.proofs.Places.{Positive, positive-field, positive-piece}
-use Rattle.message_model.proofs.Faultless.{three, header-line, named-line, faultless-lines, faultless, segments-are}
+use Rattle.message_model.proofs.Faultless.{three, header-line, named-line, faultless-lines, faultless, segments-are, no-segments}
 use Rattle.message_model.specs.Chain.{Piece, a-field, a-repetition, a-component, a-subcomponent, nextPlace, Chain, Chained}
 use Rattle.run_model.specs.Order.{FieldFirst, FieldsFirst}
 use Rattle.run_model.specs.Redact.{fits, reaches, covers, Depth, by-field, by-repetition, by-component, Reach, each-leaf, each-node, depth, reach, isNode, starts, Effect, stays, vanishes, becomes, after, effect, ruleLeaf, isUnnamed, actOr, unnamedLeaf, overLeaves, overSegments, afterRule}
@@ -308,4 +308,5 @@ module _ (s : Separators) where
   header-first l ls h e = (rw h refl, others-first ls (take 3 l ∷ []) 1 _ (omega arith) (faultless-lines s 0 0 l ls e .others))
 
 pub message-fields-first : (t : Text) → messageFault t ≡ none → FieldsFirst (messageOf t .segments)
-message-fields-first t e = let f = faultless t e in rw (segments-are t f) (header-first _ (f .line) (f .others) (header-line (f .line) (f .header) .header) (f .no-fault))
+message-fields-first [] e = rw no-segments tt
+message-fields-first (x ∷ t) e = let f = faultless x t e in rw (segments-are (x ∷ t) f) (header-first _ (f .line) (f .others) (header-line (f .line) (f .header) .header) (f .no-fault))

@@ -2,14 +2,16 @@
 use mathlib.Core.Path.{_≡_, refl, sym, ap, _∙_, subst}
 use mathlib.Core.Bool.{true, false, not}
 use mathlib.Core.List.{List, [], _∷_}
-use Prim.Native.Nat.{ℕ}
+use mathlib.Core.Option.{none}
+use Prim.Native.Nat.{ℕ, suc}
+use native.Mathlib.Omega.{arith}
 use lib.Dec.{T}
 use lib.ListN.{length, take}
 use lib.Seq.{take-at}
 use Rattle.text.specs.Text.{Text, bytes, same}
 use Rattle.er7.specs.declared.separators.Separators.{Separators}
 use Rattle.er7_redact.specs.Policy.{Rule}
-use Rattle.message_model.specs.Message.{Leaf, Label, Segment, segment, Message, messageOf, isHeaderName, atField, touchable}
+use Rattle.message_model.specs.Message.{Leaf, Label, Segment, segment, Message, messageLines, segments, messageOf, messageFault, isHeaderName, atField, touchable}
 use Rattle.message_model.proofs.Delimiters.{separators-same}
 use Rattle.message_model.proofs.Messages.{headerLabel, delimiterLeaves, HeaderFirst, leaves-of-header}
 use Rattle.run_model.specs.Redact as R
@@ -45,6 +47,22 @@ same-separators rs a b f g h =
     (subst (λ (z : List Segment). AlikeSegments rs (segment headerLabel (delimiterLeaves (a .separators) (f .rest)) ∷ f .others) z) (g .are)
     (subst (λ (z : List Segment). AlikeSegments rs z (b .segments)) (f .are) (h .segments)))
 
+-- as many segments
+alike-length : {rs : List Rule} {ss zs : List Segment} → AlikeSegments rs ss zs → length ss ≡ length zs
+alike-length AlikeSegments.end = refl
+alike-length (AlikeSegments.next g w v) = ap suc (alike-length v)
+
+some-segment : {s : Separators} {ss : List Segment} → HeaderFirst s ss → length ss ≡ 0 → ⊥
+some-segment f e = let h = ap length (f .are) in omega arith
+
+message-separators : (rs : List Rule) (m n : Text) → messageFault m ≡ none → messageFault n ≡ none → Alike rs (messageOf m) (messageOf n)
+    → messageOf m .separators ≡ messageOf n .separators
+unfolding messageOf messageLines segments
+message-separators rs [] [] f g h = refl
+message-separators rs [] (y ∷ n) f g h = absurd (some-segment (leaves-of-header y n g) (sym (alike-length (h .segments))))
+message-separators rs (x ∷ m) [] f g h = absurd (some-segment (leaves-of-header x m f) (alike-length (h .segments)))
+message-separators rs (x ∷ m) (y ∷ n) f g h = same-separators rs _ _ (leaves-of-header x m f) (leaves-of-header y n g) h
+
 -- ---- the buffers' fronts
 
 pub filled-front : (t : Text) (n : ℕ) → take (length t) (filled t n) ≡ t
@@ -73,8 +91,7 @@ unfolding redactOutcome
 demand3 policy key P m n b c h settled unswept =
     let f = is-done b m policy key P (h .policy-reads) (h .first-accepted) in
     let g = is-done c n policy key P (h .policy-reads) (h .second-accepted) in
-    let e = two-messages key P (messageOf m) (messageOf n) (same-separators (P .rules) (messageOf m) (messageOf n) (leaves-of-header m (f .no-fault)) (leaves-of-header n (g .no-fault)) (h .alike))
-    (h .alike) settled unswept (f .text, f .rows, f .run) (g .text, g .rows, g .run) in
+    let e = two-messages key P (messageOf m) (messageOf n) (message-separators (P .rules) m n (f .no-fault) (g .no-fault) (h .alike)) (h .alike) settled unswept (f .text, f .rows, f .run) (g .text, g .rows, g .run) in
     let d = done-text (f .text) (g .text) (f .rows) (g .rows) (sym (f .run) ∙ e ∙ g .run) in
     let o = ap (outcomeWithReport b) (f .answer) in
     let q = ap (outcomeWithReport c) (g .answer) in

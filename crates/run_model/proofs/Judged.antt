@@ -18,7 +18,7 @@ use Rattle.refusal.specs.declared.Refusal.the-variants.{TooLong, ForeignByte, B
 use Rattle.refusal.specs.Refusal.{number, tooLong, noForeign}
 use Rattle.refusal.specs.declared.input.Input.the-variants as Inputs
 use Rattle.refusal.specs.Limits.{LEAVES_MAX, RULES_MAX, SEGMENTS_MAX}
-use Rattle.message_model.specs.Message.{segmentLines, withoutLastCR, firstOf, isHeader, separatorsOf, isNamed, leavesOf, segmentsFault, messageFault}
+use Rattle.message_model.specs.Message.{messageLines, firstOf, isOpened, separatorsOf, isNamed, leavesOf, segmentsFault, messageFault}
 use Rattle.policy_model.specs.Policy as Q
 use Rattle.policy_model.specs.Policy.{Policy, PolicyRead, read, readPolicy, LineRead, nothing, rule, wrong, readLine, policyLines, withRules, afterLine, readLines, start}
 use Rattle.run_model.specs.Table.{is, isWrong, isRule, anyWrong, ruleCount, policyRow, allNamed, othersOf, leafCount, messageRow}
@@ -210,21 +210,24 @@ module _ (s : Separators) where
           (segments-judged ls 1 (0 + length (leavesOf s l)) (omega arith) (omega arith) (ltb-false LEAVES_MAX (0 + length (leavesOf s l)) e))
 
 pub message-judged : (t : Text) → Judges (messageRow t) (messageFault t)
-unfolding messageFault firstOf
-message-judged t = lines-from (segmentLines [] (withoutLastCR t)) refl (tooLong t) (noForeign Inputs.Message t) (isHeader (firstOf (segmentLines [] (withoutLastCR t)))) refl refl refl
+unfolding messageFault
+message-judged t = lines-from (messageLines t) refl (tooLong t) (noForeign Inputs.Message t) (isOpened (messageLines t)) refl refl refl
   where
-    only-lines : (l : Text) (ls : List Text) → segmentLines [] (withoutLastCR t) ≡ l ∷ ls → tooLong t ≡ false → noForeign Inputs.Message t ≡ true → isHeader l ≡ true
+    only-lines : (l : Text) (ls : List Text) → messageLines t ≡ l ∷ ls → tooLong t ≡ false → noForeign Inputs.Message t ≡ true → isOpened (l ∷ ls) ≡ true
         → (x : Refusal) → headerRow (separatorsOf l) l ls x ≡ messageRow t x
     only-lines l ls q e f g x =
         unfold messageRow headerRow othersOf firstOf leafCount in
         rw (q, e, f, g, and-false (is x TooLong), and-false (is x ForeignByte), and-false (is x BadHeader))
 
-    lines-from : (ls : List Text) → segmentLines [] (withoutLastCR t) ≡ ls → (a b c : Bool) → tooLong t ≡ a → noForeign Inputs.Message t ≡ b → isHeader (firstOf ls) ≡ c
+    lines-from : (ls : List Text) → messageLines t ≡ ls → (a b c : Bool) → tooLong t ≡ a → noForeign Inputs.Message t ≡ b → isOpened ls ≡ c
         → Judges (messageRow t) (cond a (some TooLong) (cond (not b) (some ForeignByte) (cond (not c) (some BadHeader) (segmentsFault (separatorsOf (firstOf ls)) 0 0 ls))))
     lines-from ls q true b c e f g = unfold messageRow is number in rw e
     lines-from ls q false false c e f g = unfold messageRow is number in rw f
     lines-from ls q false true false e f g = unfold messageRow is number in rw (q, g)
-    lines-from [] q false true true e f g = unfold isHeader firstOf in clash (sym g)
+    lines-from [] q false true true e f g =
+        unfold segmentsFault messageRow isOpened allNamed othersOf leafCount in
+        λ x. rw (q, e, f, and-false (is x TooLong), and-false (is x ForeignByte), and-false (is x BadHeader), and-false (is x BadSegment), and-false (is x TooMany))
     lines-from (l ∷ ls) q false true true e f g =
+        unfold firstOf in
         judges-same (headerRow (separatorsOf l) l ls) (messageRow t) (segmentsFault (separatorsOf l) 0 0 (l ∷ ls))
         (λ x. only-lines l ls q e f g x) (first-judged (separatorsOf l) l ls)

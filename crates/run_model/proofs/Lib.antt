@@ -1,6 +1,7 @@
 pub mod Computes
 pub mod InStep
 pub mod Longest
+pub mod Empty
 pub mod Learning
 pub mod Judged
 pub mod Progress

@@ -19,7 +19,7 @@ use Rattle.refusal.specs.Limits.{INPUT_MAX, LEARNT_BYTES_MAX, LEARNT_MAX, TEXT_
 use Rattle.message_model.specs.Message.{Leaf, leaf, Label, Segment, segment, atField, messageOf, messageFault, touchable, lead, printLeaves, printSegments, printMessage}
 use Rattle.message_model.specs.Value.{NULL, isNull, isEmptyOrNull, value}
 use Rattle.message_model.proofs.Places.{Positive, positive-field}
-use Rattle.message_model.proofs.Faultless.{faultless}
+use Rattle.message_model.proofs.Faultless.{not-too-long}
 use Rattle.message_model.proofs.Messages.{message-chains}
 use Rattle.message_model.proofs.PrintBack.{message-prints}
 use Rattle.message_model.specs.Chain.{Chain, Chained}
@@ -377,7 +377,7 @@ module _ (key : ℕ) (P : Policy) (s : Separators) (cr : Bool) (ss : List Segmen
 
 message-size : (t : Text) → messageFault t ≡ none → length (printMessage (messageOf t)) ≤ TEXT_MAX
 unfolding tooLong
-message-size t e = rw (message-prints t e) (let h = ltb-false INPUT_MAX (length t) (faultless t e .not-too-long) in omega arith)
+message-size t e = rw (message-prints t e) (let h = ltb-false INPUT_MAX (length t) (not-too-long t e) in omega arith)
 
 pub redacted-fits : (key : ℕ) (P : Policy) (t : Text) → messageFault t ≡ none → (u : Text) (ρs : List Row) → redact key P (messageOf t) ≡ done u ρs → length u ≤ TEXT_MAX
 unfolding redact redactFrom printMessage

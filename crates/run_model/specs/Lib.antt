@@ -5,3 +5,4 @@ pub mod Demand
 pub mod Counts
 pub mod Order
 pub mod Longest
+pub mod Empty

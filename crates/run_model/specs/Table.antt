@@ -13,7 +13,7 @@ use Rattle.refusal.specs.declared.Refusal.the-variants.{ShortBuffer, TooLong, F
 use Rattle.refusal.specs.Refusal.{number, tooLong, noForeign}
 use Rattle.refusal.specs.declared.input.Input.the-variants as Inputs
 use Rattle.refusal.specs.Limits.{LEARNT_BYTES_MAX, LEARNT_MAX, LEAVES_MAX, RULES_MAX, SEGMENTS_MAX, TEXT_MAX}
-use Rattle.message_model.specs.Message.{Message, messageOf, segmentLines, withoutLastCR, firstOf, isHeader, separatorsOf, isNamed, leavesOf, printMessage}
+use Rattle.message_model.specs.Message.{Message, messageOf, messageLines, firstOf, isOpened, separatorsOf, isNamed, leavesOf, printMessage}
 use Rattle.policy_model.specs.Policy as Q
 use Rattle.policy_model.specs.Policy.{Policy, PolicyRead, read, readPolicy, LineRead, nothing, rule, wrong, readLine, policyLines, Unrecognised, pass, refuse, apply}
 use Rattle.run_model.specs.Redact.{Row, Event, learn, change, Known, knows, knownBytes, segmentsEvents, unnamedEvents, forSweep, beforeSweep, eventsBeforeSweep, printRows}
@@ -77,13 +77,13 @@ unfoldable pub leafCount : Separators → List Text → ℕ
 leafCount s [] = 0
 leafCount s (l ∷ ls) = length (leavesOf s l) + leafCount s ls
 
--- "message .. above 32,768 bytes"; "a byte other than .."; "MSH opening not as above, or no bytes"; "empty, wrongly named, or a
+-- "message .. above 32,768 bytes"; "a byte other than .."; "MSH opening not as above", no longer "no bytes"; "empty, wrongly named, or a
 -- second MSH, any FHS, BHS"; "over 256 segments, 4,096 leaves"
 unfoldable pub messageRow : Text → Refusal → Bool
 messageRow t e =
-    let ls = segmentLines [] (withoutLastCR t) in
+    let ls = messageLines t in
     let s = separatorsOf (firstOf ls) in
-    is e TooLong && tooLong t || is e ForeignByte && not (noForeign Inputs.Message t) || is e BadHeader && not (isHeader (firstOf ls))
+    is e TooLong && tooLong t || is e ForeignByte && not (noForeign Inputs.Message t) || is e BadHeader && not (isOpened ls)
     || is e BadSegment && not (allNamed s (othersOf ls))
     || is e TooMany && (ltb SEGMENTS_MAX (length ls) || ltb LEAVES_MAX (leafCount s ls))
 

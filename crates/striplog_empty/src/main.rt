@@ -1,0 +1,4 @@
+// striplog on a message of no bytes.
+fn main() {
+    striplog_run::files::run();
+}
