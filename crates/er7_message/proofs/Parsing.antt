@@ -73,9 +73,7 @@ pub parsed-over : {t : Text} (store : Text) {f : Option Refusal} {m : Message} {
     → ParsedAs t f m segs cells a → ParsedAs store f m segs cells a
 parsed-over {t} store {f} {m} {segs} {cells} {a} q h p = record { is = p .is; tables = standing-over t store m segs cells a q h (p .tables) }
 
--- ---- the message
-
--- ---- no bytes
+-- ---- a message of no bytes
 
 no-leaf : (segs : List ℕ) → firstLeaf (set segs 1 0) 0 ≡ 0
 unfolding firstLeaf cell
@@ -110,7 +108,7 @@ pub message-empty : (t : Text) → length t ≡ 0 → {segs cells : List ℕ} {a
 message-empty [] e p = p
 message-empty (x ∷ t) e p = absurd (omega arith)
 
--- ---- some bytes
+-- ---- a message that has bytes
 
 lines-fault : (t : Text) → (length t ≡ 0 → ⊥)
     → cond (not (isOpened (messageLines t))) (some BadHeader) (segmentsFault (separatorsOf (firstOf (messageLines t))) 0 0 (messageLines t)) ≡ linesFault (withoutLastCR t)
