@@ -164,6 +164,7 @@ static void prints(void) {
     refused("print: no buffers", print_on(0, 0, "PID-0 clear"), ER7_SHORT_BUFFER, 0);
     refused("print: foreign byte", print("PID-0 clear\nPID-3 mask \x80"), ER7_FOREIGN_BYTE, 0);
     refused("print: bad action in line 1", print("PID-5"), ER7_BAD_ACTION, 1);
+    refused("print: bad day count in line 2", print("PID-5 shift -3650\nPID-0 shift 3651"), ER7_BAD_DAY_COUNT, 2);
     refused("print: bad path in line 2", print("PID-3 mask\nPID-0 clear\n"), ER7_BAD_PATH, 2);
     refused("print: bad directive in line 3", print("\n\nknown-values maybe"), ER7_BAD_DIRECTIVE, 3);
 
@@ -246,6 +247,7 @@ static void payloads(void) {
     done("payload: longer buffers", payload_on(65536, 49153, "4412", "unrecognised last 2", 0), "12");
     refused("payload: withheld", payload("4412", NULL, 0), ER7_WITHHELD, 0);
     refused("payload: foreign byte", payload("44\x01", NULL, 0), ER7_FOREIGN_BYTE, 0);
+    done("payload: a date", payload("20240301", "unrecognised shift -1", 0), "20240229");
     refused("payload: the policy first", payload("44\x01", "\nunrecognised", 0), ER7_BAD_DIRECTIVE, 2);
     refused("payload: short output", payload_on(WIDE - 1, WIDE, "4412", "unrecognised pass", 0), ER7_SHORT_BUFFER, 0);
     refused("payload: short scratch", payload_on(WIDE, WIDE - 1, "4412", "unrecognised pass", 0), ER7_SHORT_BUFFER, 0);
@@ -302,6 +304,9 @@ static void redacts(void) {
     refused("redact: no message, the policy's line", redact(NULL, "PID-3 mask\nPID-5[1 clear\n"), ER7_BAD_PATH, 2);
     refused("redact: the policy's line, before the message", redact("x", "PID-3 mask\nPID-5[1 clear\n"), ER7_BAD_PATH, 2);
     refused("redact: a message of one CR", redact("\r", LOG_POLICY), ER7_BAD_HEADER, 0);
+    reported("redact: dates", redact("MSH|^~\\&\rPID|20240228|20240230|202312311530\r", "PID shift +2\n"),
+             "MSH|^~\\&\rPID|20240301||202401021530\r", "PID[1]-1[1].1.1 shift 2\nPID[1]-2[1].1.1 shift 2\nPID[1]-3[1].1.1 shift 2\n", 3);
+    refused("redact: no day count", redact(LOG, "reject shift\n"), ER7_BAD_DAY_COUNT, 1);
     refused("redact: foreign byte", redact("MSH|^~\\&|A\n", LOG_POLICY), ER7_FOREIGN_BYTE, 0);
     refused("redact: bad segment", redact(LOG "pid|1\r", LOG_POLICY), ER7_BAD_SEGMENT, 0);
     char *t = repeated("MSH|^~\\&|A\r", "OBX|1\r", 256);

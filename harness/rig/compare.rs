@@ -49,7 +49,7 @@ fn lengths(r: &mut Random) -> (usize, usize, Report) {
 
 struct Rig {
     caller: Caller,
-    numbers: [u64; 15],
+    numbers: [u64; 16],
     calls: u64,
     smallest: Option<(Case, String)>,
     differing: u64,
@@ -173,7 +173,7 @@ fn main() {
     let mut arguments = std::env::args().skip(1).map(|a| a.parse::<u64>().expect("a number"));
     let seed = arguments.next().unwrap_or(1);
     let count = arguments.next().unwrap_or(200_000);
-    let mut rig = Rig { caller: Caller::new(), numbers: [0; 15], calls: 0, smallest: None, differing: 0, reached: BTreeMap::new() };
+    let mut rig = Rig { caller: Caller::new(), numbers: [0; 16], calls: 0, smallest: None, differing: 0, reached: BTreeMap::new() };
     let mut r = Random(seed);
     make::short_inputs(|entry| {
         let (output, scratch, report) = lengths(&mut r);

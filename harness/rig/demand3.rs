@@ -107,7 +107,7 @@ fn policy_text(r: &mut Random) -> String {
     for _ in 0..r.from(1, 4) {
         let action = match r.below(10) {
             0 | 1 => make::action(r),
-            _ => r.pick(&["clear", "null", "replace", "replace x", "mask", "mask", "first 0", "last 1", "keep"]).to_string(),
+            _ => r.pick(&["clear", "null", "replace", "replace x", "mask", "mask", "first 0", "last 1", "shift -400", "keep"]).to_string(),
         };
         text += &format!("{} {action}\n", make::path(r));
     }
@@ -117,10 +117,13 @@ fn policy_text(r: &mut Random) -> String {
     text + r.pick(&["known-values off\n", "known-values on\n"])
 }
 
-/// Another text for a leaf: any, or one of the same length.
+/// Another text for a leaf: any, or one of the same length, for a date also one of the same year.
 fn other(r: &mut Random, d: &[u8; 5], text: &[u8]) -> Vec<u8> {
     if r.chance(50) || text.is_empty() {
         return make::leaf(r, d);
+    }
+    if text.len() >= 8 && text[..8].iter().all(u8::is_ascii_digit) && r.chance(50) {
+        return [&text[..4], format!("{:02}{:02}", r.from(1, 12), r.from(1, 28)).as_bytes(), &text[8..]].concat();
     }
     text.iter().map(|b| if b.is_ascii_alphanumeric() { r.from(b'a' as usize, b'z' as usize) as u8 } else { *b }).collect()
 }

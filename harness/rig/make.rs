@@ -138,6 +138,26 @@ pub fn short_inputs(mut call: impl FnMut(Entry)) {
     for policy in all_of(&directives, 2) {
         call(redact("", &policy));
     }
+    let counts = ["shift", "SHIFT", " ", "\t", "+", "-", "0", "1", "3650", "3651", "x", "00000000000000000000000000000"];
+    for count in all_of(&counts, 3) {
+        call(Entry::Print { policy: format!("PID-1 shift {count}").into() });
+        call(Entry::Print { policy: format!("PID-0 SHIFT{count}").into() });
+        call(Entry::Print { policy: format!("\nreject shift {count}\n").into() });
+        call(Entry::Payload { payload: b"20240229".to_vec(), policy: format!("unrecognised Shift {count}").into(), key: 1 });
+    }
+    let shifts = [
+        "PID shift 1\nreject shift -1",
+        "PID-1 shift -366\nPID-2 shift 3650\nPID-3 shift -3650",
+        "PID shift 0\nOBX-1 shift 400\nOBX-1 shift -400\nknown-values off",
+    ];
+    let parts = ["2024", "1900", "0001", "9999", "0000", "01", "02", "04", "12", "13", "28", "29", "30", "31", "00", "x", "1200"];
+    for (i, date) in all_of(&parts, 3).iter().enumerate() {
+        for p in shifts {
+            call(redact(&format!("MSH|^~\\&\rPID|{date}|{date}1200|{date}235960\rOBX|{date}|{date} x"), p));
+        }
+        let policy = ["unrecognised shift 1", "unrecognised shift -1", "unrecognised shift 0"][i % 3].into();
+        call(Entry::Payload { payload: date.clone().into(), policy, key: 1 });
+    }
 }
 
 // ---- random inputs
@@ -150,10 +170,27 @@ const WORDS: [&str; 40] = [
 
 const NAMES: [&str; 8] = ["PID", "OBX", "OBX", "NK1", "PV1", "Z01", "IN1", "GT1"];
 
+/// A date, often with digits behind it, at the ends of the years, or what is nearly a date.
+pub fn date(r: &mut Random) -> String {
+    let text = match r.below(10) {
+        0 | 1 => r.pick(&["00010101", "99991231", "19610615", "19610615", "20000229", "20240229", "19000228"]).into(),
+        2 => r.pick(&["00000101", "19000229", "20230229", "20240431", "2024010", "202401011", "2024-1-1", "20240101+"]).into(),
+        3 => format!("{:04}{:02}{:02}", r.below(10_000), r.below(14), r.below(33)),
+        4 | 5 => format!("{}{:02}{:02}", r.pick(&["0001", "0005", "9995", "9999"]), r.from(1, 12), r.from(1, 28)),
+        _ => format!("{:04}{:02}{:02}", r.from(1890, 2110), r.from(1, 12), r.from(1, 28)),
+    };
+    match r.below(8) {
+        0 | 1 => format!("{text}{:04}", r.below(10_000)),
+        2 | 3 => format!("{text}{:06}", r.below(1_000_000)),
+        4 if r.chance(50) => text + r.pick(&["1", "12", "120", "12000", "1200000", "120x", " 1200", "1200+0100"]),
+        _ => text,
+    }
+}
+
 /// Text that stands in a leaf, its escapes those of the delimiters d.
 pub fn leaf(r: &mut Random, d: &[u8; 5]) -> Vec<u8> {
     let mut text = Vec::new();
-    match r.below(10) {
+    match r.below(12) {
         0 | 1 => {}
         2 => {
             for _ in 0..r.from(1, 12) {
@@ -165,6 +202,7 @@ pub fn leaf(r: &mut Random, d: &[u8; 5]) -> Vec<u8> {
             let n = r.from(2, 4);
             text = (0..n).map(|_| r.pick(&WORDS)).collect::<Vec<_>>().join(between).into_bytes();
         }
+        5 | 6 => text = date(r).into_bytes(),
         _ => text = r.pick(&WORDS).as_bytes().to_vec(),
     }
     if r.chance(15) {
@@ -286,8 +324,21 @@ fn argument(r: &mut Random) -> String {
     }
 }
 
+/// A day count, now and then a bad one.
+fn days(r: &mut Random) -> String {
+    let sign = r.pick(&["", "", "-", "-", "+"]);
+    match r.below(24) {
+        0 => r.pick(&["", "+", "-", "--1", "- 1", "+-1", "1 2", "1x", "0x1", "3651", "-3651", "4294967297", "18446744073709551617"]).into(),
+        1..=3 => format!("{sign}{}", r.pick(&["0", "00"])),
+        4 | 5 => format!("{sign}{}", r.pick(&["3650", "003650", "3649"])),
+        6..=9 => format!("{sign}{:05}", r.from(1, 3_650)),
+        10..=15 => format!("{sign}{}", r.from(1, 40)),
+        _ => format!("{sign}{}", r.from(1, 3_650)),
+    }
+}
+
 pub fn action(r: &mut Random) -> String {
-    let text = match r.below(16) {
+    let text = match r.below(18) {
         0 => "keep".into(),
         1 | 2 => "clear".into(),
         3 | 4 => "null".into(),
@@ -297,6 +348,7 @@ pub fn action(r: &mut Random) -> String {
         9 => format!("mask {}", r.pick(&["x", "\"", "|", "^", "\\", "&", "*", "~", "1"])),
         10 | 11 => format!("first {}", r.pick(&["0", "1", "2", "3", "4", "+4", "007", "18446744073709551615"])),
         12 | 13 => format!("last {}", r.pick(&["0", "1", "2", "3", "4", "+4", "007", "18446744073709551615"])),
+        14 | 15 => format!("shift{}{}", r.pick(&[" ", " ", " ", "\t", "  "]), days(r)),
         _ => "pseudonym".into(),
     };
     if r.chance(5) { text.to_ascii_uppercase() } else { text }
@@ -307,7 +359,11 @@ fn line(r: &mut Random) -> String {
     let mut text = match r.below(14) {
         0 => format!("reject{blank}{}", action(r)),
         1 => r.pick(&["accept", "reject", "Reject", "ACCEPT", ""]).to_string(),
-        2 => format!("{}{blank}{}", r.pick(&["unrecognised", "unrecognized"]), r.pick(&["pass", "refuse", "mask", "pseudonym", "first 3"])),
+        2 => {
+            let shift = format!("shift {}", days(r));
+            let what = r.pick(&["pass", "refuse", "mask", "pseudonym", "first 3", &shift]);
+            format!("{}{blank}{what}", r.pick(&["unrecognised", "unrecognized"]))
+        }
         3 => format!("known-values{blank}{}", r.pick(&["on", "off", "ON", "Off"])),
         4 if r.chance(10) => r.pick(&["*", "* keep", "accept x", "known-values", "unrecognised", "pass x", "PID-1", "PID-0 mask"]).to_string(),
         _ => format!("{}{blank}{}", path(r), action(r)),
@@ -431,13 +487,14 @@ fn at_limit(r: &mut Random) -> Entry {
         // a line, a word, a rest
         6 | 7 => {
             let (word, rest, line) = (near(r, 64), near(r, 80), near(r, 255));
-            let text = match r.below(7) {
+            let text = match r.below(8) {
                 0 => format!("{}{:<blank$}#{}", path(r), " ", "c".repeat(line - 40), blank = r.from(1, 20)),
                 1 => format!("# {}", "c".repeat(line - 2)),
                 2 => format!("{:<line$}", "PID-1 mask"),
                 3 => format!("{} mask", "P".repeat(word)),
                 4 => format!("PID-{:0>width$}1 {}", "", action(r), width = word - 5),
                 5 => format!("PID-1 replace {}", "r".repeat(rest - 8)),
+                6 => format!("PID-1 shift {}{:0>width$}", r.pick(&["0", "+", "-"]), r.pick(&["7", "3650", "3651", "x"]), width = rest - 7),
                 _ => format!("{} {}", r.pick(&["accept", "unrecognised", "known-values", "*", "PID-0", "reject"]), "r".repeat(rest)),
             };
             let policy = format!("PID-2 mask\n{text}{}{}", r.pick(&["", "\n", "\r\n"]), r.pick(&["", "PID-0 clear"]));
@@ -477,7 +534,8 @@ fn at_limit(r: &mut Random) -> Entry {
         13 => {
             let n = near(r, 32_768);
             let payload: Vec<u8> = (0..n).map(|i| b'0' + (i % 10) as u8).collect();
-            Entry::Payload { payload, policy: format!("unrecognised {}", r.pick(&["pass", "mask", "refuse", "last 5", "pseudonym"])).into(), key }
+            let what = r.pick(&["pass", "mask", "refuse", "last 5", "pseudonym", "shift 1"]);
+            Entry::Payload { payload, policy: format!("unrecognised {what}").into(), key }
         }
         // a policy's length
         14 => {
@@ -560,13 +618,15 @@ pub fn random_input(r: &mut Random) -> Entry {
             Entry::Append { first, second }
         }
         _ => {
-            let mut payload = message(r, 2, 4);
+            let dated = r.chance(30);
+            let mut payload = if dated { date(r).into() } else { message(r, 2, 4) };
             if r.chance(50) {
                 damage(r, &mut payload);
             }
             if r.chance(70) {
                 policy_text.extend(b"\nunrecognised ");
-                policy_text.extend(action(r).as_bytes());
+                let what = if dated && r.chance(50) { format!("shift {}", days(r)) } else { action(r) };
+                policy_text.extend(what.as_bytes());
             }
             Entry::Payload { payload, policy: policy_text, key }
         }

@@ -32,6 +32,7 @@ pub enum Action {
     First(u64),
     Last(u64),
     Pseudonym,
+    Shift(i64),
 }
 
 /// 0 stands for an index that is absent.
@@ -55,7 +56,7 @@ pub struct Rule {
 pub enum Unrecognised {
     Refuse,
     Pass,
-    Apply,
+    Apply(Action),
 }
 
 #[derive(Clone, Debug)]
@@ -101,7 +102,18 @@ fn number(digits: &[u8]) -> Option<u64> {
     Some(n as u64)
 }
 
-pub fn read_action(t: &[u8]) -> Option<Action> {
+/// A day count: one sign or none, then digits.
+fn day_count(t: &[u8]) -> Option<i64> {
+    let (sign, digits) = match t {
+        [b'-', digits @ ..] => (-1, digits),
+        [b'+', digits @ ..] => (1, digits),
+        digits => (1, digits),
+    };
+    number(digits).filter(|n| *n <= 3_650).map(|n| sign * n as i64)
+}
+
+/// An action, or its number.
+pub fn read_action(t: &[u8]) -> Result<Action, u32> {
     let (name, argument) = words(t);
     let bare = |a: Action| argument.is_empty().then_some(a);
     let count = || number(argument.strip_prefix(b"+").unwrap_or(argument));
@@ -119,8 +131,16 @@ pub fn read_action(t: &[u8]) -> Option<Action> {
         },
         b"first" => count().map(Action::First),
         b"last" => count().map(Action::Last),
+        b"shift" => {
+            let Some(days) = day_count(argument) else {
+                reach("a day count refused");
+                return Err(15);
+            };
+            Some(Action::Shift(days))
+        }
         _ => None,
     }
+    .ok_or(7)
 }
 
 /// An index: digits, 1 to 18446744073709551615; and what follows it.
@@ -203,11 +223,11 @@ pub fn read_policy(t: &[u8]) -> Result<Policy, (u32, u64)> {
                 p.reject = None;
             }
             b"reject" => {
-                let action = if rest.is_empty() { Some(Action::Replace(b"REDACTED".to_vec())) } else { read_action(rest) };
+                let action = if rest.is_empty() { Ok(Action::Replace(b"REDACTED".to_vec())) } else { read_action(rest) };
                 match action {
-                    None => return refuse(7),
-                    Some(Action::Keep) => p.reject = None,
-                    Some(a) => p.reject = Some(a),
+                    Err(n) => return refuse(n),
+                    Ok(Action::Keep) => p.reject = None,
+                    Ok(a) => p.reject = Some(a),
                 }
             }
             b"unrecognised" | b"unrecognized" => match rest.to_ascii_lowercase().as_slice() {
@@ -215,9 +235,9 @@ pub fn read_policy(t: &[u8]) -> Result<Policy, (u32, u64)> {
                 b"refuse" => p.unrecognised = Unrecognised::Refuse,
                 b"pass" => p.unrecognised = Unrecognised::Pass,
                 _ => match read_action(rest) {
-                    None => return refuse(7),
-                    Some(Action::Keep | Action::Null) => p.unrecognised = Unrecognised::Pass,
-                    Some(_) => p.unrecognised = Unrecognised::Apply,
+                    Err(n) => return refuse(n),
+                    Ok(Action::Keep | Action::Null) => p.unrecognised = Unrecognised::Pass,
+                    Ok(a) => p.unrecognised = Unrecognised::Apply(a),
                 },
             },
             b"known-values" => match rest.to_ascii_lowercase().as_slice() {
@@ -227,7 +247,10 @@ pub fn read_policy(t: &[u8]) -> Result<Policy, (u32, u64)> {
             },
             b"*" => return refuse(9),
             _ => {
-                let Some(action) = read_action(rest) else { return refuse(7) };
+                let action = match read_action(rest) {
+                    Err(n) => return refuse(n),
+                    Ok(a) => a,
+                };
                 let Some(path) = read_path(word) else { return refuse(8) };
                 if p.rules.len() == 128 {
                     return refuse(6);
@@ -411,7 +434,64 @@ fn pseudonym(key: u64, value: &[u8]) -> Vec<u8> {
     format!("{hash:016x}").into_bytes()
 }
 
-fn applied(a: &Action, key: u64, value: &[u8]) -> Option<Vec<u8>> {
+/// How many days a month has, of the years from 1.
+fn days_in(year: u64, month: u64) -> u64 {
+    match month {
+        2 if year % 4 == 0 && (year % 100 != 0 || year % 400 == 0) => 29,
+        2 => 28,
+        4 | 6 | 9 | 11 => 30,
+        _ => 31,
+    }
+}
+
+/// A date and what follows it, moved from day to day; nothing for another value, nor where the years end.
+fn shifted(days: i64, value: &[u8]) -> Vec<u8> {
+    if ![8, 12, 14].contains(&value.len()) || !value.iter().all(u8::is_ascii_digit) {
+        reach("a value of another form cleared");
+        return Vec::new();
+    }
+    let part = |from: usize, to: usize| number(&value[from..to]).unwrap();
+    let (mut year, mut month, mut day) = (part(0, 4), part(4, 6), part(6, 8));
+    if year == 0 || month == 0 || month > 12 || day == 0 || day > days_in(year, month) {
+        reach("digits that are no date cleared");
+        return Vec::new();
+    }
+    for _ in 0..days.abs() {
+        if days > 0 {
+            day += 1;
+            if day > days_in(year, month) {
+                (month, day) = (month + 1, 1);
+            }
+            if month > 12 {
+                (year, month) = (year + 1, 1);
+            }
+        } else {
+            day -= 1;
+            if day == 0 {
+                month -= 1;
+            }
+            if month == 0 {
+                (year, month) = (year - 1, 12);
+            }
+            if day == 0 {
+                day = days_in(year, month);
+            }
+        }
+        if year == 0 || year == 10_000 {
+            reach("a result outside the years cleared");
+            return Vec::new();
+        }
+    }
+    reach(match (days, value.len()) {
+        (0, _) => "a date that shift 0 leaves",
+        (_, 8) => "a date moved",
+        _ => "a date with digits behind it moved",
+    });
+    [format!("{year:04}{month:02}{day:02}").as_bytes(), &value[8..]].concat()
+}
+
+/// What an action makes of a value; nothing for keep and null.
+pub fn applied(a: &Action, key: u64, value: &[u8]) -> Option<Vec<u8>> {
     let within = |n: u64| usize::try_from(n).unwrap().min(value.len());
     match a {
         Action::Keep | Action::Null => None,
@@ -421,6 +501,7 @@ fn applied(a: &Action, key: u64, value: &[u8]) -> Option<Vec<u8>> {
         Action::First(n) => Some(value[..within(*n)].to_vec()),
         Action::Last(n) => Some(value[value.len() - within(*n)..].to_vec()),
         Action::Pseudonym => Some(pseudonym(key, value)),
+        Action::Shift(days) => Some(shifted(*days, value)),
     }
 }
 
@@ -434,6 +515,7 @@ fn action_text(a: &Action) -> Vec<u8> {
         Action::First(n) => format!("first {n}").into_bytes(),
         Action::Last(n) => format!("last {n}").into_bytes(),
         Action::Pseudonym => b"pseudonym".to_vec(),
+        Action::Shift(days) => format!("shift {days}").into_bytes(),
     }
 }
 

@@ -21,6 +21,8 @@ fn number_of(error: &er7_redact::Error) -> Option<(u32, u64)> {
         8
     } else if nine.iter().any(|w| detail.starts_with(w)) {
         9
+    } else if detail.starts_with("action \"shift\" wants") {
+        15
     } else {
         7
     };
@@ -97,14 +99,16 @@ fn judged(entry: &Entry) -> Result<Result<Outcome, String>, Result<Outcome, Stri
             if payload.iter().any(|b| !matches!(b, 0x09 | 0x0a | 0x0d | 0x20..=0x7e)) {
                 return Err(Ok(Outcome::refused(3, 0)));
             }
-            let answer = Redactor::new(rust).with_key(*key).unrecognised(std::str::from_utf8(payload).unwrap());
-            match (answer, plain.unrecognised) {
-                (None, model::Unrecognised::Refuse) => Outcome::refused(13, 0),
-                (Some(text), model::Unrecognised::Pass | model::Unrecognised::Apply) => {
-                    Outcome { text: text.into_bytes(), ..Outcome::default() }
-                }
-                _ => return Err(Err("model and Rust disagree about a payload".to_string())),
+            let answer = Redactor::new(rust).with_key(*key).unrecognised(std::str::from_utf8(payload).unwrap()).map(String::into_bytes);
+            let plain = match plain.unrecognised {
+                model::Unrecognised::Refuse => None,
+                model::Unrecognised::Pass => Some(payload.clone()),
+                model::Unrecognised::Apply(a) => model::applied(&a, *key, payload),
+            };
+            if answer != plain {
+                return Err(Err("model and Rust disagree about a payload".to_string()));
             }
+            answer.map_or(Outcome::refused(13, 0), |text| Outcome { text, ..Outcome::default() })
         }
         Entry::Redact { message, policy: p, key } => {
             let (rust, plain) = policy(p)?;

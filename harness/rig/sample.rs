@@ -32,10 +32,11 @@ fn head() -> String {
 #
 # Chosen are: one of {SHORT} of the comparison's short inputs; of {RANDOM} random ones of seed {SEED}, damaged ones among them, each below a drawn
 # size that gets a number that fewer than {GET} cases before it get, or shows something that fewer than {SHOW} show (a posture, an action that the
-# posture, the sweep or a rule of some depth writes, a null among them, which collapses a node); and inputs at each limit that a short
-# input reaches. Inputs and answers of a case have fewer than {MOST} bytes: the number 2 and the limit of leaves, which need more, are left
-# to the comparison.
-# Texts, reports, rows and the numbers 7, 8, 9 and 13 are what the Rust says, the other refusals are the plain model's. The port was not asked.
+# posture, the sweep or a rule of some depth writes, a null among them, which collapses a node, or what a change brought); and inputs at
+# each limit that a short input reaches. Inputs and answers of a case have fewer than {MOST} bytes: the number 2 and the limit of leaves,
+# which need more, are left to the comparison.
+# Texts, reports, rows and the numbers 7, 8, 9, 13 and 15 are what the Rust says, the other refusals are the plain model's. The port
+# was not asked.
 #
 # A case to a line, its fields parted by tabs: group; number, line, rows, text, report; the lengths of output, report and scratch; the first
 # text, the second, and the key or the built-in's number. What an entry lacks is empty or 0.
@@ -48,6 +49,8 @@ struct Case {
     entry: Entry,
     lengths: Lengths,
     outcome: Outcome,
+    /// What a change brought that the case reaches.
+    reached: BTreeSet<&'static str>,
 }
 
 /// The outcome in buffers of these lengths.
@@ -95,8 +98,9 @@ fn escaped(text: &[u8]) -> String {
 
 impl Case {
     fn new(entry: Entry, lengths: Lengths) -> Case {
+        model::reached();
         let outcome = outcome(&entry, lengths);
-        Case { entry, lengths, outcome }
+        Case { entry, lengths, outcome, reached: model::reached() }
     }
 
     fn size(&self) -> usize {
@@ -207,6 +211,7 @@ fn shown(case: &Case) -> BTreeSet<String> {
     let mut shown = vec![format!("line {}", o.line.min(3))];
     if o.number == 0 {
         shown.extend(accepted(case));
+        shown.extend(case.reached.iter().map(ToString::to_string));
     }
     shown.into_iter().map(|s| format!("{}: {s}", name(&case.entry))).collect()
 }

@@ -7,8 +7,9 @@ use lib.ListN.{length-append, length-take, length-drop, length-replicate}
 use Rattle.text.specs.Text.{Text, bytes}
 use Rattle.text.specs.Number.{eightBytes}
 use Rattle.text.proofs.Spelling.{hexadecimal-length}
+use Rattle.calendar.proofs.TextLaws.{shifted-short}
 use Rattle.er7_redact.specs.Action as A
-use Rattle.er7_redact.specs.Action.{Action, keep, clear, null, pseudonym, replace, mask, first, last, printAction, room}
+use Rattle.er7_redact.specs.Action.{Action, keep, clear, null, pseudonym, replace, mask, first, last, shift, printAction, room}
 use Rattle.pseudonym.specs.Pseudonym as P
 use Rattle.policy_model.specs.Policy.{read, readPolicy, Unrecognised, pass, refuse, apply}
 use Rattle.policy_model.proofs.LineReads.{GoodAction, GoodUnrecognised, good-pass, good-refuse, good-apply}
@@ -29,6 +30,7 @@ good-short key (replace t) g v h = omega (arith, simp length-append at (g .rest-
 good-short key (mask c) g v h = simp length-replicate (omega arith)
 good-short key (first n) g v h = simp length-take (omega arith)
 good-short key (last n) g v h = simp length-drop (omega arith)
+good-short key (shift n) g v h = omega (arith, shifted-short n v)
 
 unrecognised-good : (key : ℕ) (u : Unrecognised) → GoodUnrecognised u → UnrecognisedShort key u
 unrecognised-good key pass good-pass = tt

@@ -1,10 +1,13 @@
 -- Laws of actions read from an index on. Assumes nothing.
 use mathlib.Core.Path.{_≡_, refl, sym, ap, _∙_}
+use mathlib.Core.Bool.{Bool, true, false, _||_}
 use mathlib.Core.List.{[], _∷_}
 use mathlib.Core.Option.{Option, none, some, Option·map}
 use Prim.Native.Nat.{ℕ, _+_, _-_, _≤_, _<_}
 use native.Mathlib.Omega.{arith}
 use borrow.Author.Tests.{eq-eqb, ne-eqb}
+use lib.Dec.{eqb}
+use lib.IntN.{ℤ}
 use lib.ListN.{length, take, drop, getD, length-take, length-drop, drop-of-length-le}
 use Rattle.text.specs.declared.bytes.Class.the-variants.{Blank, NotBlank}
 use Rattle.text.specs.declared.decimal.Number.the-variants.{At, Refused}
@@ -14,14 +17,15 @@ use Rattle.text.proofs.Runs.{drop-step}
 use Rattle.er7_redact.specs.declared.action.Count.{Count}
 use Rattle.er7_redact.specs.declared.action.Count.the-variants.{Of, BadCount}
 use Rattle.er7_redact.specs.declared.action.Verb.{Verb}
+use Rattle.er7_redact.specs.declared.action.Verb.the-variants as Verbs
 use Rattle.er7_redact.specs.declared.action.Applied.the-variants.{Written, Nothing}
 use Rattle.er7_redact.specs.declared.action.Action.{Action as HeldAction}
 use Rattle.er7_redact.specs.declared.action.Action.the-variants as Held
-use Rattle.refusal.specs.declared.Refusal.the-variants.{BadAction}
+use Rattle.refusal.specs.declared.Refusal.the-variants.{BadAction, BadDayCount}
 use Rattle.er7_redact.specs.declared.action.ParsedAction.{ParsedAction}
 use Rattle.er7_redact.specs.declared.action.ParsedAction.the-variants.{Parsed, Refused}
-use Rattle.er7_redact.specs.Action.{Action, replacement, name, argument, argumentAt, verb, readAction, withoutPlus, whole, readCount, readMask, readReplace, readArgument, bare, heldAs, orBad, heldAction, heldRead, answer, written, room}
-use Rattle.er7_redact.specs.Inner.{heldBare, heldCount, heldCounted, CountFrom}
+use Rattle.er7_redact.specs.Action.{Action, shift, replacement, name, argument, argumentAt, verb, readAction, withoutPlus, whole, readCount, isNegative, withoutSign, daysOf, readDays, readMask, readReplace, readArgument, bare, heldAs, refusalOf, orRefused, heldAction, heldRead, answer, written, room}
+use Rattle.er7_redact.specs.Inner.{heldBare, heldCount, heldCounted, heldDays, countOf, CountFrom, DaysFrom}
 
 -- ---- counts
 
@@ -38,19 +42,47 @@ module _ {s : Text} {i : ℕ} where
   unfolding withoutPlus
   plus-end l h = record { high = l; is = rw (drop-of-length-le s h) }
 
--- the count begins at index k
-module _ {s : Text} {i k : ℕ} (f : CountFrom s i k) where
-  pub count-found : {n r : ℕ} → TakenAt takeNumber s k (At n r) → r ≡ length s → Of n ≡ heldCount (readCount (drop i s))
-  unfolding readCount heldCount whole asTaken
-  count-found {n} {r} g h = sym (rw (← f .is, ← g .is, drop-of-length-le s {i = r} (omega arith)))
+-- a number up to the end of s
+module _ {s : Text} {k : ℕ} where
+  pub whole-found : {n r : ℕ} → TakenAt takeNumber s k (At n r) → r ≡ length s → Of n ≡ heldCount (whole (takeNumber (drop k s)))
+  unfolding heldCount whole asTaken
+  whole-found {n} {r} g h = sym (rw (← g .is, drop-of-length-le s {i = r} (omega arith)))
 
-  pub count-left : {n r : ℕ} → TakenAt takeNumber s k (At n r) → (r ≡ length s → ⊥) → BadCount ≡ heldCount (readCount (drop i s))
-  unfolding readCount heldCount whole asTaken
-  count-left {n} {r} g h = sym (rw (← f .is, ← g .is, drop-step s r (omega (arith, g .inside .1))))
+  pub whole-left : {n r : ℕ} → TakenAt takeNumber s k (At n r) → (r ≡ length s → ⊥) → BadCount ≡ heldCount (whole (takeNumber (drop k s)))
+  unfolding heldCount whole asTaken
+  whole-left {n} {r} g h = sym (rw (← g .is, drop-step s r (omega (arith, g .inside .1))))
 
-  pub count-none : TakenAt takeNumber s k Refused → BadCount ≡ heldCount (readCount (drop i s))
-  unfolding readCount heldCount whole asTaken
-  count-none g = sym (rw (← f .is, ← g .is))
+  pub whole-none : TakenAt takeNumber s k Refused → BadCount ≡ heldCount (whole (takeNumber (drop k s)))
+  unfolding heldCount whole asTaken
+  whole-none g = sym (rw (← g .is))
+
+pub count-read : {s : Text} {i k : ℕ} {c : Count} → CountFrom s i k → c ≡ heldCount (whole (takeNumber (drop k s))) → c ≡ heldCount (readCount (drop i s))
+unfolding readCount
+count-read f e = e ∙ ap (λ (t : Text). heldCount (whole (takeNumber t))) (f .is)
+
+-- ---- days
+
+module _ (s : Text) (i : ℕ) where
+  pub minus-told : i < length s → {b : Bool} → b ≡ eqb (getD s i 0) 0x2d → b ≡ isNegative (drop i s)
+  unfolding isNegative
+  minus-told h e = e ∙ sym (rw (drop-step s i h))
+
+  pub minus-end : length s ≤ i → false ≡ isNegative (drop i s)
+  unfolding isNegative
+  minus-end h = sym (rw (drop-of-length-le s h))
+
+module _ {s : Text} {i : ℕ} where
+  pub sign-yes : i < length s → (eqb (getD s i 0) 0x2b || eqb (getD s i 0) 0x2d) ≡ true → DaysFrom s i (i + 1)
+  unfolding withoutSign
+  sign-yes h e = record { high = omega arith; is = sym (rw (drop-step s i h, e)) }
+
+  pub sign-no : i < length s → (eqb (getD s i 0) 0x2b || eqb (getD s i 0) 0x2d) ≡ false → DaysFrom s i i
+  unfolding withoutSign
+  sign-no h e = record { high = omega arith; is = sym (rw (drop-step s i h, e)) }
+
+  pub sign-end : i ≤ length s → length s ≤ i → DaysFrom s i i
+  unfolding withoutSign
+  sign-end l h = record { high = l; is = rw (drop-of-length-le s h) }
 
 -- ---- actions with their arguments
 
@@ -77,10 +109,20 @@ module _ (s : Text) (i j n : ℕ) where
   mask-more h = sym (rw (drop-step s i (omega arith), drop-step s (i + 1) h))
 
 -- each verb
-held-or : (i n : ℕ) (o : Option Action) → heldAction i n o ≡ heldRead i n (orBad o)
+held-or : (i n : ℕ) (o : Option Action) → heldAction i n o ≡ heldRead i n (orRefused BadAction o)
 unfolding heldAction heldRead
 held-or i n none = refl
 held-or i n (some a) = refl
+
+held-days : (i n : ℕ) (o : Option ℤ) → heldDays o ≡ heldRead i n (orRefused BadDayCount (Option·map shift o))
+unfolding heldDays heldRead heldAs
+held-days i n none = refl
+held-days i n (some z) = refl
+
+count-again : (o : Option ℕ) → countOf (heldCount o) ≡ o
+unfolding countOf heldCount
+count-again none = refl
+count-again (some n) = refl
 
 bare-held : (j n : ℕ) (a : Action) (t : Text) → heldBare (heldAs j n a) t ≡ heldAction j n (bare a t)
 unfolding heldBare heldAction bare
@@ -92,17 +134,29 @@ unfolding heldCounted heldCount heldAction
 count-held j n f g e none = refl
 count-held j n f g e (some k) = ap Parsed (e k)
 
-module _ {v w : Verb} (j n : ℕ) (t : Text) (e : v ≡ w) where
-  pub by-bare : (a : Action) {r : ParsedAction} → ((u : Text) → readArgument w u ≡ bare a u) → r ≡ heldBare (heldAs j n a) t → r ≡ heldAction j n (readArgument v t)
-  by-bare a f g =
-      let b : readArgument v t ≡ bare a t = rw e (f t) in
-      g ∙ rw b (bare-held j n a t)
+module _ {v w : Verb} (j n : ℕ) (t : Text) (e : v ≡ w) (b : refusalOf w ≡ BadAction) {r : ParsedAction} where
+  pub by-verb : r ≡ heldAction j n (readArgument v t) → r ≡ heldRead j n (orRefused (refusalOf v) (readArgument v t))
+  by-verb g =
+      let q : refusalOf v ≡ BadAction = rw e b in
+      g ∙ rw q (held-or j n (readArgument v t))
 
-  pub by-count : (f : ℕ → Action) (g : ℕ → HeldAction) {c : Count} {r : ParsedAction} → ((u : Text) → readArgument w u ≡ Option·map f (readCount u)) → ((k : ℕ) → g k ≡ heldAs j n (f k))
-      → c ≡ heldCount (readCount t) → r ≡ heldCounted g c → r ≡ heldAction j n (readArgument v t)
+  pub by-bare : (a : Action) → ((u : Text) → readArgument w u ≡ bare a u) → r ≡ heldBare (heldAs j n a) t → r ≡ heldRead j n (orRefused (refusalOf v) (readArgument v t))
+  by-bare a f g =
+      let q : readArgument v t ≡ bare a t = rw e (f t) in
+      by-verb (g ∙ rw q (bare-held j n a t))
+
+  pub by-count : (f : ℕ → Action) (g : ℕ → HeldAction) {c : Count} → ((u : Text) → readArgument w u ≡ Option·map f (readCount u)) → ((k : ℕ) → g k ≡ heldAs j n (f k))
+      → c ≡ heldCount (readCount t) → r ≡ heldCounted g c → r ≡ heldRead j n (orRefused (refusalOf v) (readArgument v t))
   by-count f g h k p q =
       let a : readArgument v t ≡ Option·map f (readCount t) = rw e (h t) in
-      q ∙ rw (p, a) (count-held j n f g k (readCount t))
+      by-verb (q ∙ rw (p, a) (count-held j n f g k (readCount t)))
+
+pub by-days : {s : Text} {i k : ℕ} (j n : ℕ) {v : Verb} {m : Bool} {c : Count} {r : ParsedAction} → v ≡ Verbs.Shift → m ≡ isNegative (drop i s) → DaysFrom s i k
+    → c ≡ heldCount (whole (takeNumber (drop k s))) → r ≡ heldDays (daysOf m (countOf c)) → r ≡ heldRead j n (orRefused (refusalOf v) (readArgument v (drop i s)))
+unfolding refusalOf readArgument readDays
+by-days {s} {i} {k} j n e f g h q =
+    let t : heldCount (whole (takeNumber (drop k s))) ≡ heldCount (whole (takeNumber (withoutSign (drop i s)))) = ap (λ (u : Text). heldCount (whole (takeNumber u))) (g .is) in
+    q ∙ rw (e, f, h, t, count-again (whole (takeNumber (withoutSign (drop i s))))) (held-days j n (readDays (drop i s)))
 
 -- an argument of n bytes: its bytes, or none
 pub replace-held : (s : Text) (i j : ℕ) → Parsed (Held.Replace j (length s - i)) ≡ heldAction j (length s - i) (readReplace (drop i s))
@@ -131,10 +185,11 @@ module _ {s : Text} {e k : ℕ} (f : RunEnd (isIn NotBlank) s 0 e) (g : RunEnd (
   argument-length : length (argument s) ≡ length s - k
   argument-length = rw (← argument-is) (length-drop k s)
 
-  pub action-read : (base : ℕ) {v : Verb} {r : ParsedAction} → v ≡ verb (take (e - 0) s) → r ≡ heldAction (base + k) (length s - k) (readArgument v (drop k s))
+  pub action-read : (base : ℕ) {v : Verb} {r : ParsedAction} → v ≡ verb (take (e - 0) s)
+      → r ≡ heldRead (base + k) (length s - k) (orRefused (refusalOf v) (readArgument v (drop k s)))
       → r ≡ heldRead (base + argumentAt s) (length (argument s)) (readAction s)
   unfolding readAction
-  action-read base h q = q ∙ rw (h, name-is, argument-is, argument-starts, argument-length) (held-or _ _ (readArgument (verb (name s)) (argument s)))
+  action-read base h q = q ∙ rw (h, name-is, argument-is, argument-starts, argument-length)
 
 -- ---- printing
 

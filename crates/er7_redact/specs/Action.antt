@@ -1,16 +1,18 @@
--- action.rs: the eight actions, reading, printing and applying them. Assumes nothing: these are definitions.
-use mathlib.Core.Bool.{Bool, cond}
+-- action.rs: the actions, reading, printing and applying them. Assumes nothing: these are definitions.
+use mathlib.Core.Bool.{Bool, false, cond, _||_}
 use mathlib.Core.List.{[], _∷_, _++_}
 use mathlib.Core.Option.{Option, none, some, Option·map}
-use Prim.Native.Nat.{ℕ, _+_, _-_, _≤_}
-use lib.Dec.{eqb}
+use Prim.Native.Nat.{ℕ, suc, _+_, _-_, _≤_}
+use lib.Dec.{eqb, leb}
+use lib.IntN.{ℤ, pos, negsuc, negℤ}
 use lib.ListN.{length}
 use Rattle.text.specs.Text.{Text, bytes, isWord, part}
 use Rattle.text.specs.Characters.{charCount, firstChars, lastChars, character, oneChar, maskText, skipBlanks, word, behindWord}
 use Rattle.text.specs.Number.{decimal, Taken, taken, refused, takeNumber}
 use Rattle.pseudonym.specs.Pseudonym as P
+use Rattle.calendar.specs.Shift.{shifted}
 use Rattle.refusal.specs.declared.Refusal.{Refusal}
-use Rattle.refusal.specs.declared.Refusal.the-variants.{BadAction}
+use Rattle.refusal.specs.declared.Refusal.the-variants.{BadAction, BadDayCount}
 use Rattle.er7_redact.specs.declared.action.Verb.{Verb}
 use Rattle.er7_redact.specs.declared.action.Verb.the-variants as Verbs
 use Rattle.er7_redact.specs.declared.action.Action.{Action as HeldAction}
@@ -20,13 +22,14 @@ use Rattle.er7_redact.specs.declared.action.ParsedAction.the-variants.{P
 use Rattle.er7_redact.specs.declared.action.Applied.{Applied}
 use Rattle.er7_redact.specs.declared.action.Applied.the-variants.{Written, Nothing}
 
--- "one of eight actions: keep, clear, null, replace, mask, first, last, pseudonym"
+-- "one of eight actions: keep, clear, null, replace, mask, first, last, pseudonym"; "A new action `shift n` moves a date by n days"
 pub data Action : Type 0 where
   keep clear null pseudonym : Action
   replace : Text → Action
   mask first last : ℕ → Action
+  shift : ℤ → Action
 
--- an action as a number, each of the eight by its own
+-- an action as a number, each by its own
 unfoldable pub kind : Action → ℕ
 kind keep = 0
 kind clear = 1
@@ -36,6 +39,7 @@ kind (replace t) = 4
 kind (mask c) = 5
 kind (first n) = 6
 kind (last n) = 7
+kind (shift n) = 8
 
 unfoldable pub isKeep : Action → Bool
 isKeep a = eqb (kind a) 0
@@ -58,7 +62,8 @@ verbWithArgument w =
     cond (isWord w (bytes "replace")) Verbs.Replace
     (cond (isWord w (bytes "mask")) Verbs.Mask
     (cond (isWord w (bytes "first")) Verbs.First
-    (cond (isWord w (bytes "last")) Verbs.Last Verbs.Unknown)))
+    (cond (isWord w (bytes "last")) Verbs.Last
+    (cond (isWord w (bytes "shift")) Verbs.Shift Verbs.Unknown))))
 
 unfoldable pub verb : Text → Verb
 verb w =
@@ -94,6 +99,28 @@ whole refused = none
 unfoldable pub readCount : Text → Option ℕ
 readCount s = whole (takeNumber (withoutPlus s))
 
+-- "n a signed decimal from -3650 to 3650, leading zeros allowed"
+abbrev pub DAYS_MAX : ℕ
+DAYS_MAX = 3650
+
+unfoldable pub signed : Bool → ℕ → ℤ
+signed minus n = cond minus (negℤ (pos n)) (pos n)
+
+unfoldable pub isNegative : Text → Bool
+isNegative [] = false
+isNegative (x ∷ s) = eqb x 0x2d
+
+unfoldable pub withoutSign : Text → Text
+withoutSign [] = []
+withoutSign (x ∷ s) = cond (eqb x 0x2b || eqb x 0x2d) s (x ∷ s)
+
+unfoldable pub daysOf : Bool → Option ℕ → Option ℤ
+daysOf minus none = none
+daysOf minus (some n) = cond (leb n DAYS_MAX) (some (signed minus n)) none
+
+unfoldable pub readDays : Text → Option ℤ
+readDays s = daysOf (isNegative s) (whole (takeNumber (withoutSign s)))
+
 unfoldable pub readArgument : Verb → Text → Option Action
 readArgument Verbs.Keep s = bare keep s
 readArgument Verbs.Clear s = bare clear s
@@ -103,6 +130,7 @@ readArgument Verbs.Replace s = readReplace s
 readArgument Verbs.Mask s = readMask s
 readArgument Verbs.First s = Option·map first (readCount s)
 readArgument Verbs.Last s = Option·map last (readCount s)
+readArgument Verbs.Shift s = Option·map shift (readDays s)
 readArgument Verbs.Unknown s = none
 
 -- an action, or the refusal to give: "missing or unreadable"
@@ -110,15 +138,33 @@ pub data ActionRead : Type 0 where
   is-action : Action → ActionRead
   no-action : Refusal → ActionRead
 
-abbrev pub orBad : Option Action → ActionRead
-orBad none = no-action BadAction
-orBad (some a) = is-action a
+-- "15, day count missing, unreadable or out of range, in the place of 7 for this action"
+unfoldable pub refusalOf : Verb → Refusal
+refusalOf Verbs.Keep = BadAction
+refusalOf Verbs.Clear = BadAction
+refusalOf Verbs.Null = BadAction
+refusalOf Verbs.Pseudonym = BadAction
+refusalOf Verbs.Replace = BadAction
+refusalOf Verbs.Mask = BadAction
+refusalOf Verbs.First = BadAction
+refusalOf Verbs.Last = BadAction
+refusalOf Verbs.Shift = BadDayCount
+refusalOf Verbs.Unknown = BadAction
+
+abbrev pub orRefused : Refusal → Option Action → ActionRead
+orRefused e none = no-action e
+orRefused e (some a) = is-action a
 
 -- an action from a text with no blanks around it
 unfoldable pub readAction : Text → ActionRead
-readAction s = orBad (readArgument (verb (name s)) (argument s))
+readAction s = let v = verb (name s) in orRefused (refusalOf v) (readArgument v (argument s))
 
 -- ---- printing
+
+-- "Zero prints as `shift 0`; a plus isn't printed"
+unfoldable pub printDays : ℤ → Text
+printDays (pos n) = decimal n
+printDays (negsuc n) = 0x2d ∷ decimal (suc n)
 
 unfoldable pub printAction : Action → Text
 printAction keep = bytes "keep"
@@ -129,6 +175,7 @@ printAction (replace t) = bytes "replace " ++ t
 printAction (mask c) = bytes "mask " ++ character c
 printAction (first n) = bytes "first " ++ decimal n
 printAction (last n) = bytes "last " ++ decimal n
+printAction (shift n) = bytes "shift " ++ printDays n
 
 -- ---- applying
 
@@ -142,6 +189,7 @@ apply key (replace t) v = some t
 apply key (mask c) v = some (maskText c (charCount v))
 apply key (first n) v = some (firstChars n v)
 apply key (last n) v = some (lastChars n v)
+apply key (shift n) v = some (shifted n v)
 
 -- ---- the enum: an action whose replacement is a part of a text
 
@@ -159,6 +207,7 @@ asAction t (Held.Mask c) = mask c
 asAction t (Held.First n) = first n
 asAction t (Held.Last n) = last n
 asAction t Held.Pseudonym = pseudonym
+asAction t (Held.Shift n) = shift n
 
 -- a replacement lies in the text t
 abbrev pub ActionHeld : Text → HeldAction → Type 0
@@ -170,6 +219,7 @@ ActionHeld t (Held.Mask c) = Unit {0}
 ActionHeld t (Held.First n) = Unit {0}
 ActionHeld t (Held.Last n) = Unit {0}
 ActionHeld t Held.Pseudonym = Unit {0}
+ActionHeld t (Held.Shift n) = Unit {0}
 
 -- the enum for what was read, with an argument of n bytes at index i of a text
 unfoldable pub heldAs : ℕ → ℕ → Action → HeldAction
@@ -181,6 +231,7 @@ heldAs i n (replace t) = Held.Replace i n
 heldAs i n (mask c) = Held.Mask c
 heldAs i n (first k) = Held.First k
 heldAs i n (last k) = Held.Last k
+heldAs i n (shift z) = Held.Shift z
 
 unfoldable pub heldAction : ℕ → ℕ → Option Action → ParsedAction
 heldAction i n none = Refused BadAction

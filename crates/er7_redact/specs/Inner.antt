@@ -3,15 +3,17 @@ use mathlib.Core.Path.{_≡_}
 use mathlib.Core.List.{[], _∷_}
 use mathlib.Core.Option.{Option, none, some}
 use Prim.Native.Nat.{ℕ, _≤_}
+use lib.IntN.{ℤ}
 use lib.ListN.{length, drop}
 use Rattle.text.specs.Text.{Text}
 use Rattle.er7_redact.specs.declared.action.Action.{Action as HeldAction}
-use Rattle.refusal.specs.declared.Refusal.the-variants.{BadAction}
+use Rattle.er7_redact.specs.declared.action.Action.the-variants as Held
+use Rattle.refusal.specs.declared.Refusal.the-variants.{BadAction, BadDayCount}
 use Rattle.er7_redact.specs.declared.action.ParsedAction.{ParsedAction}
 use Rattle.er7_redact.specs.declared.action.ParsedAction.the-variants.{Parsed, Refused}
 use Rattle.er7_redact.specs.declared.action.Count.{Count}
 use Rattle.er7_redact.specs.declared.action.Count.the-variants.{Of, BadCount}
-use Rattle.er7_redact.specs.Action.{withoutPlus}
+use Rattle.er7_redact.specs.Action.{withoutPlus, withoutSign}
 
 -- the enum for an action a that takes no argument, where s stands in the argument's place
 unfoldable pub heldBare : HeldAction → Text → ParsedAction
@@ -27,7 +29,22 @@ unfoldable pub heldCounted : (ℕ → HeldAction) → Count → ParsedAction
 heldCounted f (Of n) = Parsed (f n)
 heldCounted f BadCount = Refused BadAction
 
+-- the number in a count
+unfoldable pub countOf : Count → Option ℕ
+countOf (Of n) = some n
+countOf BadCount = none
+
+-- the enum for days that were read
+unfoldable pub heldDays : Option ℤ → ParsedAction
+heldDays none = Refused BadDayCount
+heldDays (some z) = Parsed (Held.Shift z)
+
 -- r is where the count begins that stands in s from index i on, behind its sign
 pub record CountFrom (s : Text) (i r : ℕ) : Type 0 where
   pub high : r ≤ length s
   pub is : drop r s ≡ withoutPlus (drop i s)
+
+-- .. and where the digits begin, behind a sign of either kind
+pub record DaysFrom (s : Text) (i r : ℕ) : Type 0 where
+  pub high : r ≤ length s
+  pub is : drop r s ≡ withoutSign (drop i s)

@@ -1,4 +1,6 @@
 // Actions: what redaction does to a value.
+use calendar::texts::shift_at;
+use calendar::texts::shifted_len;
 use pseudonym::pseudonym;
 use refusal::Refusal;
 use text::bytes::Class;
@@ -15,11 +17,13 @@ ghost use mathlib.Core.Path.{_≡_};
 ghost use Prim.Native.Nat.{ℕ, _+_, _-_, _^_, _≤_, _<_, min};
 ghost use lib.ListN.{length, take, drop};
 ghost use Rattle.text.specs.Text.{Text, Wrote};
-ghost use Rattle.er7_redact.specs.Action.{verbWithArgument, verb, readCount, readMask, readArgument, readAction, printAction, replacement, asAction, ActionHeld, heldAction, heldRead, argument, argumentAt, answer, written, room, isKeep, isNullAction};
-ghost use Rattle.er7_redact.specs.Inner.{CountFrom, heldBare, heldCounted, heldCount};
+ghost use Rattle.er7_redact.specs.Action.{verbWithArgument, verb, whole, readCount, readMask, isNegative, DAYS_MAX, daysOf, readArgument, refusalOf, orRefused, readAction, printDays, printAction, replacement, asAction, ActionHeld, heldAction, heldRead, argument, argumentAt, answer, written, room, isKeep, isNullAction};
+ghost use Rattle.text.specs.Number.{takeNumber};
+ghost use lib.IntN.{natAbs};
+ghost use Rattle.er7_redact.specs.Inner.{CountFrom, DaysFrom, heldBare, heldCounted, heldCount, heldDays, countOf};
 ghost use Rattle.er7_redact.specs.Action as Spec;
 
-// The eight actions. A replacement is len bytes of a text from index start on; len is 0 for that of a bare `replace`.
+// The actions. A replacement is len bytes of a text from index start on; len is 0 for that of a bare `replace`.
 pub enum Action {
     Keep,
     Clear,
@@ -29,6 +33,7 @@ pub enum Action {
     First(u64),
     Last(u64),
     Pseudonym,
+    Shift(i64),
 }
 
 pub enum ParsedAction {
@@ -46,6 +51,7 @@ pub enum Verb {
     First,
     Last,
     Pseudonym,
+    Shift,
     Unknown,
 }
 
@@ -61,7 +67,7 @@ pub enum Applied {
     Nothing,
 }
 
-// The action a as a number, each of the eight by its own.
+// The action a as a number, each by its own.
 pub fn kind(a: Action) -> u8
     ensures { λ r. ⌜ ((t : Text) → r ≡ Spec.kind (asAction t a)) ⌝ }
 {
@@ -74,6 +80,7 @@ pub fn kind(a: Action) -> u8
         Action::First(_) => 6,
         Action::Last(_) => 7,
         Action::Pseudonym => 3,
+        Action::Shift(_) => 8,
     }
 }
 
@@ -105,6 +112,9 @@ fn verb_with_argument(s: &[u8]) -> Verb
     }
     if is_word(s, b"last") {
         return Verb::Last;
+    }
+    if is_word(s, b"shift") {
+        return Verb::Shift;
     }
     Verb::Unknown
 }
@@ -141,13 +151,12 @@ fn without_plus(s: &[u8], i: usize) -> usize
     i
 }
 
-// The count that stands in s from index i on, up to its end.
-fn read_count(s: &[u8], i: usize) -> Count
+// The number that stands in s from index i on, up to its end.
+fn read_whole(s: &[u8], i: usize) -> Count
     requires { ⌜ i ≤ length (now s) ⌝ }
-    ensures { λ r. ⌜ r ≡ heldCount (readCount (drop i (now (s .entry)))) ⌝ }
+    ensures { λ r. ⌜ r ≡ heldCount (whole (takeNumber (drop i (now (s .entry))))) ⌝ }
 {
-    let start = without_plus(s, i);
-    match number_at(s, start) {
+    match number_at(s, i) {
         Number::At(n, r) => {
             if r == s.len() {
                 return Count::Of(n);
@@ -156,6 +165,14 @@ fn read_count(s: &[u8], i: usize) -> Count
         }
         Number::Refused => Count::BadCount,
     }
+}
+
+// The count that stands in s from index i on, up to its end.
+fn read_count(s: &[u8], i: usize) -> Count
+    requires { ⌜ i ≤ length (now s) ⌝ }
+    ensures { λ r. ⌜ r ≡ heldCount (readCount (drop i (now (s .entry)))) ⌝ }
+{
+    read_whole(s, without_plus(s, i))
 }
 
 // The action a, which takes no argument, if nothing stands in s from index i on.
@@ -202,10 +219,63 @@ fn last_of(count: Count) -> ParsedAction
     }
 }
 
+// Whether a minus stands in s at index i.
+fn is_negative(s: &[u8], i: usize) -> bool
+    requires { ⌜ i ≤ length (now s) ⌝ }
+    ensures { λ r. ⌜ r ≡ isNegative (drop i (now (s .entry))) ⌝ }
+{
+    if i < s.len() {
+        return s[i] == b'-';
+    }
+    false
+}
+
+// Where the digits begin that stand in s from index i on, behind a sign if there is one.
+fn without_sign(s: &[u8], i: usize) -> usize
+    requires { ⌜ i ≤ length (now s) ⌝ }
+    ensures { λ r. ⌜ DaysFrom (now (s .entry)) i r ⌝ }
+{
+    if i < s.len() {
+        if (s[i] == b'+') | (s[i] == b'-') {
+            return i + 1;
+        }
+    }
+    i
+}
+
+// The greatest number of days that a date is moved by.
+const DAYS_MAX: u64 = 3650;
+
+// Days forward or, with a minus, backward.
+fn signed(minus: bool, days: u64) -> i64
+    requires { ⌜ days ≤ DAYS_MAX ⌝ }
+    ensures { λ r. ⌜ r ≡ Spec.signed minus days ⌝ }
+{
+    if minus {
+        return -(days as i64);
+    }
+    days as i64
+}
+
+// `shift` with a number of days.
+fn shift_by(minus: bool, count: Count) -> ParsedAction
+    ensures { λ r. ⌜ r ≡ heldDays (daysOf minus (countOf count)) ⌝ }
+{
+    match count {
+        Count::Of(n) => {
+            if n <= DAYS_MAX {
+                return ParsedAction::Parsed(Action::Shift(signed(minus, n)));
+            }
+            ParsedAction::Refused(Refusal::BadDayCount)
+        }
+        Count::BadCount => ParsedAction::Refused(Refusal::BadDayCount),
+    }
+}
+
 // The action that v names, with the argument that stands in s from index i on; s stands in a text from index base on.
 fn read_argument(v: Verb, s: &[u8], i: usize, base: usize) -> ParsedAction
     requires { ⌜ (i ≤ length (now s)) × (base + length (now s) < 2 ^ 64) ⌝ }
-    ensures { λ r. ⌜ r ≡ heldAction (base + i) (length (now (s .entry)) - i) (readArgument v (drop i (now (s .entry)))) ⌝ }
+    ensures { λ r. ⌜ r ≡ heldRead (base + i) (length (now (s .entry)) - i) (orRefused (refusalOf v) (readArgument v (drop i (now (s .entry))))) ⌝ }
 {
     match v {
         Verb::Keep => read_bare(Action::Keep, s, i),
@@ -220,6 +290,7 @@ fn read_argument(v: Verb, s: &[u8], i: usize, base: usize) -> ParsedAction
         Verb::Mask => read_mask(s, i),
         Verb::First => first_of(read_count(s, i)),
         Verb::Last => last_of(read_count(s, i)),
+        Verb::Shift => shift_by(is_negative(s, i), read_whole(s, without_sign(s, i))),
         Verb::Unknown => ParsedAction::Refused(Refusal::BadAction),
     }
 }
@@ -245,6 +316,38 @@ fn put_replacement(text: &[u8], start: usize, len: usize, out: &mut [u8], at: us
     }
     let end = start + len;
     copy_at(out, at, &text[start..end])
+}
+
+// The days n without their sign.
+fn magnitude(n: i64) -> u64
+    ensures { λ r. ⌜ r ≡ natAbs n ⌝ }
+{
+    if n < 0 {
+        return (-1 - n) as u64 + 1;
+    }
+    n as u64
+}
+
+// Writes the days n to out from index at on, and returns the index behind them.
+fn days_at(out: &mut [u8], at: usize, n: i64) -> usize
+    requires { ⌜ at + length (printDays n) ≤ length (now out) ⌝ }
+    ensures { λ r. ⌜ Wrote (now (out .entry)) at (printDays n) (now (out .exit)) r ⌝ }
+{
+    if n < 0 {
+        let k = byte_at(out, at, b'-');
+        return decimal_at(out, k, magnitude(n));
+    }
+    decimal_at(out, at, magnitude(n))
+}
+
+// The length of what days_at writes.
+fn days_len(n: i64) -> usize
+    ensures { λ r. ⌜ (r ≡ length (printDays n)) × (r ≤ 21) ⌝ }
+{
+    if n < 0 {
+        return decimal_len(magnitude(n)) + 1;
+    }
+    decimal_len(magnitude(n))
 }
 
 // Writes the action a, whose replacement stands in text, to out from index at on, and returns the index behind it.
@@ -273,6 +376,10 @@ pub fn print(a: Action, text: &[u8], out: &mut [u8], at: usize) -> usize
             decimal_at(out, k, n)
         }
         Action::Pseudonym => copy_at(out, at, b"pseudonym"),
+        Action::Shift(n) => {
+            let k = copy_at(out, at, b"shift ");
+            days_at(out, k, n)
+        }
     }
 }
 
@@ -300,6 +407,7 @@ pub fn printed_len(a: Action, text: &[u8]) -> usize
         Action::First(n) => decimal_len(n) + 6,
         Action::Last(n) => decimal_len(n) + 5,
         Action::Pseudonym => 9,
+        Action::Shift(n) => days_len(n) + 6,
     }
 }
 
@@ -342,6 +450,7 @@ pub fn apply(a: Action, text: &[u8], key: u64, value: &[u8], out: &mut [u8], at:
         Action::First(n) => keep_first(value, n, out, at),
         Action::Last(n) => keep_last(value, n, out, at),
         Action::Pseudonym => pseudonym(key, value, out, at),
+        Action::Shift(n) => shift_at(value, n, out, at),
     }
 }
 
@@ -368,5 +477,6 @@ pub fn applied_len(a: Action, value: &[u8]) -> Applied
         Action::First(n) => Applied::Written(kept_len(value.len(), n)),
         Action::Last(n) => Applied::Written(kept_len(value.len(), n)),
         Action::Pseudonym => Applied::Written(16),
+        Action::Shift(n) => Applied::Written(shifted_len(value, n)),
     }
 }

@@ -5,11 +5,12 @@ use mathlib.Core.Option.{Option, none, some}
 use Prim.Native.Nat.{ℕ, zero, suc}
 use Prim.Native.String.{String}
 use lib.Dec.{eqb}
+use lib.IntN.{pos, negsuc}
 use lib.ListN.{length, drop, replicate}
 use Rattle.text.specs.Text.{Text, bytes, same, all, begins}
 use Rattle.er7.specs.Path.{Path, readPath, printPath}
 use Rattle.pseudonym.specs.Pseudonym.{OFFSET, fold}
-use Rattle.er7_redact.specs.Action.{Action, ActionRead, is-action, no-action, kind, keep, clear, null, pseudonym, replace, mask, first, last, readAction, apply}
+use Rattle.er7_redact.specs.Action.{Action, ActionRead, is-action, no-action, kind, keep, clear, null, pseudonym, replace, mask, first, last, shift, readAction, printDays, apply}
 use Rattle.er7.specs.declared.separators.Separators.{Separators}
 use Rattle.refusal.specs.declared.Refusal.{Refusal}
 use Rattle.refusal.specs.Refusal.{number}
@@ -81,7 +82,7 @@ samePath p q =
     same (p .segment) (q .segment) && eqb (p .occurrence) (q .occurrence) && eqb (p .field) (q .field) && eqb (p .repetition) (q .repetition)
     && eqb (p .component) (q .component) && eqb (p .subcomponent) (q .subcomponent)
 
--- what an action has beside its kind: a replacement, a character or a count, or nothing
+-- what an action has beside its kind: a replacement, a character, a count, days as they print, or nothing
 unfoldable pub operandOf : Action → Text
 operandOf keep = []
 operandOf clear = []
@@ -91,6 +92,7 @@ operandOf (replace t) = t
 operandOf (mask c) = c ∷ []
 operandOf (first n) = n ∷ []
 operandOf (last n) = n ∷ []
+operandOf (shift n) = printDays n
 
 unfoldable pub sameAction : Action → Action → Bool
 sameAction a b = eqb (kind a) (kind b) && same (operandOf a) (operandOf b)
@@ -237,6 +239,14 @@ table =
     ∷ action-is "first +4" (first 4)
     ∷ action-refused "mask ab" 7
     ∷ applies 0 (last 3) "ab" "ab"
+    ∷ action-is "shift +3650" (shift (pos 3650))
+    ∷ action-refused "shift 3651" 15
+    ∷ applies 0 (shift (pos 1)) "20240228" "20240229"
+    ∷ applies 0 (shift (pos 2)) "20240228" "20240301"
+    ∷ applies 0 (shift (pos 1)) "19000228" "19000301"
+    ∷ applies 0 (shift (pos 1)) "20231231" "20240101"
+    ∷ applies 0 (shift (negsuc 0)) "00010101" ""
+    ∷ applies 0 (shift (negsuc 6)) "20240301153059" "20240223153059"
     ∷ hash-is "" 0xcbf29ce484222325
     ∷ value-is "a\\F\\b" "a|b" "a\\F\\b"
     ∷ value-is "a\\Fb" "a\\Fb" "a\\E\\Fb"
@@ -290,6 +300,7 @@ table =
     ∷ redacts "MSH|^~\\&|A\rPID|1||ann|Ann Lee|to ANN LEE|to ann lee, too\r" "PID-3 mask\nPID-4 first 10\n" 0 "MSH|^~\\&|A\rPID|1||***|Ann Lee|to ANN LEE|to ann lee\r" "PID[1]-3[1].1.1 mask *\nPID[1]-6[1].1.1 first 10\n" 2
     ∷ redacts "MSH|^~\\&|A\rPID|1||ann|Lee|lee, ann\r" "PID-3 mask\nPID-4 clear\n" 0 "MSH|^~\\&|A\rPID|1||***||\r" "PID[1]-3[1].1.1 mask *\nPID[1]-4[1].1.1 clear\nPID[1]-5[1].1.1 clear\n" 3
     ∷ redacts "" "PID-3 mask\n" 0 "" "" 0
+    ∷ redacts "MSH|^~\\&|A\rPID|1||20231231|1231\rOBX|1||20231231\r" "PID-3 Shift +007\nPID-4 shift -0\n" 0 "MSH|^~\\&|A\rPID|1||20240107|\rOBX|1||20240107\r" "PID[1]-3[1].1.1 shift 7\nPID[1]-4[1].1.1 shift 0\nOBX[1]-3[1].1.1 shift 7\n" 3
     ∷ redact-refused "" "PID-3 mask\nPID-0 clear\n" 8 2
     ∷ key-is "0" 0
     ∷ key-is "007\n" 7

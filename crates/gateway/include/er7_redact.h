@@ -13,7 +13,7 @@
  *   on success  output holds the text in its first *text_len bytes, report its rows in the first *report_len bytes, and zeros behind
  *               them; the scratch is zeroed whole; *line is 0
  *   on refusal  output, report and scratch are zeroed whole; *text_len, *report_len and *rows are 0; *line is the policy's line,
- *               from 1, for the policy's numbers 6 to 9, else 0
+ *               from 1, for the policy's numbers 6 to 9 and 15, else 0
  * No text ends in a NUL of its own; an output that the text fills has no zero behind it.
  *
  * Limits. Output and scratch have at least ER7_BUFFER_MIN bytes each; more is fine. The report may have any length, 0 included.
@@ -64,14 +64,15 @@ enum er7_number {
     ER7_MESSAGE_TOO_LONG = 11, /* a change leaves the message over ER7_BUFFER_MIN bytes */
     ER7_REPORT_TOO_LONG = 12,  /* the report is longer than its buffer */
     ER7_WITHHELD = 13,         /* a payload under `unrecognised refuse` */
-    ER7_NO_SUCH_BUILTIN = 14   /* number above 3 */
+    ER7_NO_SUCH_BUILTIN = 14,  /* number above 3 */
+    ER7_BAD_DAY_COUNT = 15     /* `shift` without a day count, or with one that is unreadable or not from -3650 to 3650 */
 };
 
 /*
  * Redacts a message. Output gets its text; report gets a row for each change: the full path, a blank, the action, LF; *rows is their
  * number. The key makes pseudonyms: the same value under the same key gets the same one. A message of no bytes, which may be NULL, is
  * legal with any policy that reads: no text, no report, no rows.
- * Refusals: 1 to 12.
+ * Refusals: 1 to 12, 15.
  */
 uint32_t er7_redact(const uint8_t *message, size_t message_size,
                     const uint8_t *policy, size_t policy_size,
@@ -83,7 +84,7 @@ uint32_t er7_redact(const uint8_t *message, size_t message_size,
 
 /*
  * Reads a policy and prints it to output, in the form that reads as the same policy. An empty policy is legal.
- * Refusals: 1, 2, 3, 6 to 9.
+ * Refusals: 1, 2, 3, 6 to 9, 15.
  */
 uint32_t er7_print(const uint8_t *policy, size_t policy_size,
                    uint8_t *output, size_t output_size,
@@ -94,7 +95,7 @@ uint32_t er7_print(const uint8_t *policy, size_t policy_size,
  * Reads two policies and prints them merged: the first's rules before the second's, the second's posture if it is at least as strict,
  * the second's unrecognised, known-values on if either has it. The line of a refusal is in the first policy if that is refused by
  * itself, else in the second; where both read and have over 128 rules together it is 0.
- * Refusals: 1, 2, 3, 6 to 9.
+ * Refusals: 1, 2, 3, 6 to 9, 15.
  */
 uint32_t er7_append(const uint8_t *first, size_t first_size,
                     const uint8_t *second, size_t second_size,
@@ -114,7 +115,7 @@ uint32_t er7_builtin(uint64_t number,
 /*
  * What a policy's `unrecognised` line makes of a payload that is no message: `pass` writes it to output as it is, `refuse` (also where
  * there is no such line) gets 13, an action is applied to the payload as one text. An empty payload is legal.
- * Refusals: 1, 2, 3, 6 to 9, 13.
+ * Refusals: 1, 2, 3, 6 to 9, 13, 15.
  */
 uint32_t er7_payload(const uint8_t *payload, size_t payload_size,
                      const uint8_t *policy, size_t policy_size,

@@ -7,7 +7,7 @@ use native.Mathlib.Omega.{arith}
 use Rattle.text.specs.Text.{bytes, isUpper, isBlank, notBlank, lowerByte, lower, same, isWord, isEmpty, run, rest, all}
 use Rattle.text.specs.Characters.{prepend, trimEnd, trim}
 use Rattle.er7.specs.Path.{readPath, printPath}
-use Rattle.er7_redact.specs.Action.{Action, is-action, keep, clear, null, pseudonym, replace, mask, first, last, isKeep, isNullAction, readAction, printAction}
+use Rattle.er7_redact.specs.Action.{Action, is-action, keep, clear, null, pseudonym, replace, mask, first, last, shift, isKeep, isNullAction, readAction, printAction}
 use Rattle.er7_redact.specs.Policy.{Rule, Posture, accept, reject}
 use Rattle.refusal.specs.Refusal.{isPlain}
 use Rattle.policy_model.specs.Policy.{Unrecognised, pass, refuse, apply, rejecting, applying, LineRead, path-kind, lineKind, withAction, readAccept, readReject, readUnrecognised, readKnownValues, withPath, readRule, readDirective, judged, readWords, notCR, notHash, readLine, gap, column, ruleLine, postureLine, unrecognisedText, sweepText}
@@ -79,6 +79,7 @@ no-word (replace t) = (refl, refl)
 no-word (mask c) = (refl, refl)
 no-word (first n) = (refl, refl)
 no-word (last n) = (refl, refl)
+no-word (shift z) = (refl, refl)
 
 unrecognised-rest : (u : Unrecognised) → GoodUnrecognised u → GoodRest (unrecognisedText u)
 unfolding unrecognisedText bytes isEmpty all isWordByte isLineByte isPlain notHash notBlank isBlank

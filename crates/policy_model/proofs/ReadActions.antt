@@ -3,8 +3,9 @@ use mathlib.Core.Path.{_≡_, refl, sym, ap, _∙_}
 use mathlib.Core.Bool.{true, false}
 use mathlib.Core.List.{[], _∷_, _++_}
 use mathlib.Core.Option.{Option, none, some}
-use Prim.Native.Nat.{ℕ, _+_, _≤_, _<_, _^_}
+use Prim.Native.Nat.{ℕ, suc, _+_, _≤_, _<_, _^_}
 use native.Mathlib.Omega.{arith}
+use lib.IntN.{ℤ, pos, negsuc, natAbs}
 use lib.ListN.{length, length-append}
 use Rattle.text.specs.Text.{Text, bytes, isUpper, isBlank, notBlank, isEmpty, lowerByte, lower, same, isWord, run, rest, all}
 use Rattle.text.specs.Number.{decimal}
@@ -13,8 +14,8 @@ use Rattle.text.proofs.Runs.{stop, stop-rest, all-append}
 use Rattle.text.proofs.Words.{same-eq, lower-length}
 use Rattle.text.proofs.Decimals.{length-u64, decimal-full}
 use Rattle.er7_redact.specs.declared.action.Verb.{Verb}
-use Rattle.er7_redact.specs.Action.{Action, ActionRead, is-action, no-action, keep, clear, null, pseudonym, replace, first, last, name, argument, verbWithArgument, verb, bare, readReplace, readMask, readArgument, readAction, printAction}
-use Rattle.er7_redact.proofs.ActionReadBack.{bare-from, count-from, IfRead, if-read, action-read-back}
+use Rattle.er7_redact.specs.Action.{Action, ActionRead, is-action, no-action, keep, clear, null, pseudonym, replace, first, last, shift, name, argument, verbWithArgument, verb, bare, readReplace, readMask, DAYS_MAX, readArgument, refusalOf, readAction, printDays, printAction}
+use Rattle.er7_redact.proofs.ActionReadBack.{bare-from, count-from, days-from, IfRead, if-read, action-read-back}
 use Rattle.refusal.specs.Refusal.{isPlain}
 use Rattle.policy_model.specs.Policy.{notHash}
 use Rattle.policy_model.proofs.Texts.{all-rest, full-append, stop-append, ends, ends-append, ends-rest, blank-between}
@@ -55,6 +56,12 @@ module _ (a : Text) (n : isEmpty a ≡ false) (b : stop isBlank a ≡ true) (h :
       let d : GoodRest (decimal k) = word-rest (decimal k) (record { full = decimal-full k; bytes-fit = decimal-word k; short = omega arith }) in
       argument-fits (decimal k) (d .trimmed) (d .full) (omega arith)
 
+-- `shift` with its days
+days-fit : (z : ℤ) → natAbs z ≤ DAYS_MAX → Fits (shift z)
+unfolding printAction printDays bytes isEmpty stop isBlank all isLineByte isPlain notHash
+days-fit (pos n) h = count-fits (bytes "shift ") refl refl refl n (omega arith) (omega arith)
+days-fit (negsuc n) h = count-fits (bytes "shift -") refl refl refl (suc n) (omega arith) (omega arith)
+
 redacted-fits : Fits (replace (bytes "REDACTED"))
 unfolding printAction bytes isEmpty stop isBlank ends all isLineByte isPlain notHash
 redacted-fits = record { trimmed = record { begins = refl; closes = refl; bytes-fit = refl }; full = refl; short = omega arith }
@@ -94,11 +101,12 @@ module _ (s : Text) (g : Trimmed s) (l : length s ≤ 80) where
       by-cond ByVerb (isWord (name s) (bytes "replace")) _ _ (λ e. replace-fits (argument s) (behind-word s g) (λ n. omega (arith, replace-letters (name s) e, blank-between s n))) λ e.
       by-cond ByVerb (isWord (name s) (bytes "mask")) _ _ (λ e. mask-fits (argument s) (behind-word s g)) λ e.
       by-cond ByVerb (isWord (name s) (bytes "first")) _ _ (λ e. count-from Fits first (λ n h. count-fits (bytes "first ") refl refl refl n h (omega arith)) (argument s)) λ e.
-      by-cond ByVerb (isWord (name s) (bytes "last")) _ _ (λ e. count-from Fits last (λ n h. count-fits (bytes "last ") refl refl refl n h (omega arith)) (argument s)) λ e. tt
+      by-cond ByVerb (isWord (name s) (bytes "last")) _ _ (λ e. count-from Fits last (λ n h. count-fits (bytes "last ") refl refl refl n h (omega arith)) (argument s)) λ e.
+      by-cond ByVerb (isWord (name s) (bytes "shift")) _ _ (λ e. days-from Fits (λ z h. days-fit z h) (argument s)) λ e. tt
 
   pub action-good : IfRead GoodAction (readAction s)
   unfolding readAction
-  action-good = go (readAction s) refl (if-read Fits (readArgument (verb (name s)) (argument s)) verb-fits)
+  action-good = go (readAction s) refl (if-read Fits (refusalOf (verb (name s))) (readArgument (verb (name s)) (argument s)) verb-fits)
     where
       go : (o : ActionRead) → readAction s ≡ o → IfRead Fits o → IfRead GoodAction o
       go (no-action x) e h = tt

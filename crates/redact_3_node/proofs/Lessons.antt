@@ -69,6 +69,7 @@ asks (Held.Mask c) = 0
 asks (Held.First n) = 0
 asks (Held.Last n) = 0
 asks Held.Pseudonym = 0
+asks (Held.Shift n) = 0
 
 abbrev allAsk : List ℕ → ℕ → ℕ
 allAsk known zero = 0
@@ -83,6 +84,7 @@ ask-held (Held.Mask c) t h = tt
 ask-held (Held.First n) t h = tt
 ask-held (Held.Last n) t h = tt
 ask-held Held.Pseudonym t h = tt
+ask-held (Held.Shift n) t h = tt
 
 ask-row : (known : List ℕ) (n i : ℕ) → i < n → asks (actionAt known i) ≤ allAsk known n
 ask-row known zero i h = absurd (omega arith)

@@ -1,3 +1,4 @@
+pub mod Codes
 pub mod Acts
 pub mod Knowing
 pub mod Learning

@@ -4,7 +4,8 @@ use mathlib.Core.Path.{_≡_}
 use mathlib.Core.Bool.{true, cond}
 use mathlib.Core.List.{List, [], _∷_}
 use mathlib.Core.Option.{Option, none, some}
-use Prim.Native.Nat.{ℕ, zero, suc, _+_, _*_, _%_, _≤_, _<_}
+use Prim.Native.Nat.{ℕ, zero, suc, _+_, _*_, _%_, _^_, _≤_, _<_}
+use lib.IntN.{ℤ, pos, negsuc}
 use lib.ListN.{length, getD}
 use lib.Dec.{eqb}
 use Rattle.text.specs.Text.{Text, part, SameTo}
@@ -21,6 +22,10 @@ use Rattle.redact_5_act.specs.declared.known.Learnt.the-variants.{Kept, 
 
 -- ---- the table
 
+-- the days of `shift` in two operands: y is 1 where they are below 0, and x is one less than they are without their sign then
+unfoldable pub daysIn : ℕ → ℕ → ℤ
+daysIn x y = cond (eqb y 1) (negsuc (x % 2 ^ 63)) (pos (x % 2 ^ 63))
+
 -- the action of a kind with the operands x and y; the character of `mask` is a byte
 unfoldable pub actionOf : ℕ → ℕ → ℕ → HeldAction
 actionOf kind x y =
@@ -30,7 +35,8 @@ actionOf kind x y =
     (cond (eqb kind 4) (Held.Replace x y)
     (cond (eqb kind 5) (Held.Mask (x % 256))
     (cond (eqb kind 6) (Held.First x)
-    (cond (eqb kind 7) (Held.Last x) Held.Keep))))))
+    (cond (eqb kind 7) (Held.Last x)
+    (cond (eqb kind 8) (Held.Shift (daysIn x y)) Held.Keep)))))))
 
 -- the value and the action of row i
 unfoldable pub valueAt : Text → List ℕ → ℕ → Text

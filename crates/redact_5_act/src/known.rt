@@ -15,7 +15,8 @@ ghost use Rattle.text.specs.Text.{Text, same, between};
 ghost use Rattle.message_model.specs.Value.{isWholeWord};
 ghost use Rattle.er7_value.specs.Starts.{Starts};
 ghost use Rattle.run_model.specs.Redact as Spec;
-ghost use Rattle.redact_5_act.specs.Known.{actionOf, actionAt, valueAt, hashOf, knownFrom, Slot, Slots, GoodKnown, learnValue, learnLeaf, Learns, Swept};
+ghost use Rattle.er7_redact.specs.declared.action.Action.the-variants as Held;
+ghost use Rattle.redact_5_act.specs.Known.{daysIn, actionOf, actionAt, valueAt, hashOf, knownFrom, Slot, Slots, GoodKnown, learnValue, learnLeaf, Learns, Swept};
 ghost use Rattle.redact_5_act.specs.Inner.{firstMarked, hasValue, RowFound, LastFound, RowPut};
 ghost use Rattle.refusal.specs.Limits.{LEARNT_MAX, TEXT_MAX};
 
@@ -35,6 +36,35 @@ pub struct Code {
     pub y: usize,
 }
 
+// The days of `shift` in two operands.
+fn days_in(x: usize, y: usize) -> i64
+    ensures { λ r. ⌜ r ≡ daysIn x y ⌝ }
+{
+    let n = (x % 9223372036854775808) as i64;
+    if y == 1 {
+        return -1 - n;
+    }
+    n
+}
+
+// The kind and the operands of `shift` with the days n.
+fn code_of_days(n: i64) -> Code
+    ensures { λ r. ⌜ actionOf (r .kind) (r .x) (r .y) ≡ Held.Shift n ⌝ }
+{
+    if n < 0 {
+        return Code {
+            kind: 8,
+            x: (-1 - n) as usize,
+            y: 1,
+        };
+    }
+    Code {
+        kind: 8,
+        x: n as usize,
+        y: 0,
+    }
+}
+
 // The action of a kind with the operands x and y.
 pub fn action_of(kind: usize, x: usize, y: usize) -> Action
     ensures { λ r. ⌜ r ≡ actionOf kind x y ⌝ }
@@ -47,6 +77,7 @@ pub fn action_of(kind: usize, x: usize, y: usize) -> Action
         5 => Action::Mask((x % 256) as u8),
         6 => Action::First(x as u64),
         7 => Action::Last(x as u64),
+        8 => Action::Shift(days_in(x, y)),
         _ => Action::Keep,
     }
 }
@@ -96,6 +127,7 @@ pub fn code_of(a: Action) -> Code
             x: n as usize,
             y: 0,
         },
+        Action::Shift(n) => code_of_days(n),
     }
 }
 

@@ -1,14 +1,16 @@
 -- Laws of rows and of the report. Assumes nothing.
 use mathlib.Core.Path.{_≡_, refl, sym, ap, _∙_}
 use mathlib.Core.List.{List, [], _∷_, _++_, append-nil, append-assoc}
-use Prim.Native.Nat.{ℕ, _+_, _-_, _^_, _≤_, _<_}
+use Prim.Native.Nat.{ℕ, suc, _+_, _-_, _^_, _≤_, _<_}
 use native.Mathlib.Nat.{zero-add}
 use native.Mathlib.Omega.{arith}
+use lib.IntN.{ℤ, pos, negsuc}
+use lib.Signed.{mag}
 use lib.ListN.{length, take, drop, length-append, length-take, length-drop, take-append-drop}
 use lib.Seq.{take-at, drop-drop, drop-append-le}
 use borrow.Rule.Slice.PartMut.{putMid}
 use Rattle.text.specs.Text.{Text, bytes, part, put, Wrote}
-use Rattle.text.proofs.Decimals.{length-u64}
+use Rattle.text.proofs.Decimals.{length-most, length-u64}
 use Rattle.text.proofs.Laws.{zero-or}
 use Rattle.text.proofs.Writes.{put-length}
 use Rattle.er7.specs.declared.message.Place.{Place}
@@ -16,7 +18,7 @@ use Rattle.er7.specs.Path.{inBrackets, behind, printPath, asPath, PathHeld}
 use Rattle.er7.proofs.PrintedPaths.{brackets-none, brackets-length, behind-none, behind-length, path-length}
 use Rattle.er7_redact.specs.declared.action.Action.{Action as HeldAction}
 use Rattle.er7_redact.specs.declared.action.Action.the-variants as Held
-use Rattle.er7_redact.specs.Action.{Action, printAction, asAction, ActionHeld, replacement}
+use Rattle.er7_redact.specs.Action.{Action, printDays, printAction, asAction, ActionHeld, replacement}
 use Rattle.er7_redact.proofs.Actions.{replacement-bare, replacement-length}
 use Rattle.run_model.specs.Redact.{Row, row, printRow, printRows}
 use Rattle.er7.specs.declared.message.Label.{Label as HeldLabel}
@@ -63,6 +65,7 @@ CountBits (Held.Mask c) = Unit {0}
 CountBits (Held.First n) = n < 2 ^ 64
 CountBits (Held.Last n) = n < 2 ^ 64
 CountBits Held.Pseudonym = Unit {0}
+CountBits (Held.Shift z) = mag z < 2 ^ 63
 
 path-most : (g : HeldLabel) (p : Place) → Bits g p → length (printPath (asPath (g .a ∷ g .b ∷ g .c ∷ []) (leafPath g p))) ≤ 110
 unfolding leafPath
@@ -72,6 +75,11 @@ path-most g p b =
 replacement-most : (t : Text) (i n : ℕ) → i + n ≤ length t → length (replacement t i n) ≤ length t + 8
 unfolding bytes
 replacement-most t i n h = zero-or n (λ e. rw (replacement-bare t i n e) (omega arith)) (λ l. omega (arith, replacement-length t i n (λ e. omega arith) h))
+
+days-most : (z : ℤ) → mag z < 2 ^ 63 → length (printDays z) ≤ 20
+unfolding printDays
+days-most (pos n) h = omega (arith, length-most 18 n (omega arith))
+days-most (negsuc n) h = omega (arith, length-most 18 (suc n) (omega arith))
 
 action-most : (t : Text) (a : HeldAction) → ActionHeld t a → CountBits a → length (printAction (asAction t a)) ≤ length t + 26
 unfolding printAction asAction bytes
@@ -83,6 +91,7 @@ action-most t (Held.Mask c) h b = omega arith
 action-most t (Held.First n) h b = omega (arith, length-u64 n b)
 action-most t (Held.Last n) h b = omega (arith, length-u64 n b)
 action-most t Held.Pseudonym h b = omega arith
+action-most t (Held.Shift z) h b = omega (arith, days-most z b)
 
 pub row-most : (g : HeldLabel) (p : Place) (t : Text) (a : HeldAction) → Bits g p → ActionHeld t a → CountBits a
     → length (printRow (row (asLabel g) p (asAction t a))) ≤ length t + 138

@@ -6,7 +6,7 @@ use lib.Dec.{eqb, leb, ltb}
 use lib.ListN.{length}
 use Rattle.text.specs.Text.{Text}
 use Rattle.refusal.specs.declared.Refusal.{Refusal}
-use Rattle.refusal.specs.declared.Refusal.the-variants.{ShortBuffer, TooLong, ForeignByte, BadHeader, BadSegment, TooMany, BadAction, BadPath, BadDirective, TooMuchLearnt, MessageTooLong, ReportTooLong, Withheld, NoSuchBuiltin}
+use Rattle.refusal.specs.declared.Refusal.the-variants.{ShortBuffer, TooLong, ForeignByte, BadHeader, BadSegment, TooMany, BadAction, BadPath, BadDirective, TooMuchLearnt, MessageTooLong, ReportTooLong, Withheld, NoSuchBuiltin, BadDayCount}
 use Rattle.refusal.specs.declared.input.Input.{Input}
 use Rattle.refusal.specs.declared.input.Input.the-variants.{Message, Policy, Payload}
 use Rattle.refusal.specs.Limits.{INPUT_MAX}
@@ -27,6 +27,7 @@ number MessageTooLong = 11
 number ReportTooLong = 12
 number Withheld = 13
 number NoSuchBuiltin = 14
+number BadDayCount = 15
 
 -- "message, payload or policy above 32,768 bytes"
 unfoldable pub tooLong : Text → Bool

@@ -35,6 +35,8 @@ pub enum Refusal {
     Withheld,
     // 14, no such built-in
     NoSuchBuiltin,
+    // 15, day count missing, unreadable or out of range
+    BadDayCount,
 }
 
 // The number that a caller gets for a refusal.
@@ -56,5 +58,6 @@ pub fn number(refusal: Refusal) -> u32
         Refusal::ReportTooLong => 12,
         Refusal::Withheld => 13,
         Refusal::NoSuchBuiltin => 14,
+        Refusal::BadDayCount => 15,
     }
 }

@@ -9,7 +9,7 @@ use lib.Dec.{ltb}
 use lib.ListN.{length}
 use Rattle.text.specs.Text.{Text}
 use Rattle.refusal.specs.declared.Refusal.{Refusal}
-use Rattle.refusal.specs.declared.Refusal.the-variants.{ShortBuffer, TooLong, ForeignByte, BadHeader, BadSegment, TooMany, BadAction, BadPath, BadDirective, TooMuchLearnt, MessageTooLong, ReportTooLong, Withheld, NoSuchBuiltin}
+use Rattle.refusal.specs.declared.Refusal.the-variants.{ShortBuffer, TooLong, ForeignByte, BadHeader, BadSegment, TooMany, BadAction, BadPath, BadDirective, TooMuchLearnt, MessageTooLong, ReportTooLong, Withheld, NoSuchBuiltin, BadDayCount}
 use Rattle.refusal.specs.Refusal.{number}
 use Rattle.message_model.specs.Message.{messageOf, messageFault}
 use Rattle.policy_model.specs.Policy.{Policy, read, readPolicy}
@@ -34,6 +34,7 @@ number-positive MessageTooLong h = omega arith
 number-positive ReportTooLong h = omega arith
 number-positive Withheld h = omega arith
 number-positive NoSuchBuiltin h = omega arith
+number-positive BadDayCount h = omega arith
 
 abbrev pub Succeeds : {X : Type 0} → Answer X → Type 0
 Succeeds a = numberOf a ≡ 0

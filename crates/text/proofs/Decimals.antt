@@ -46,7 +46,7 @@ pub length-positive : (n : ℕ) → 0 < length (decimal n)
 length-positive n = split n 10 (λ h. omega (arith, length-small n h)) (λ h. omega (arith, length-more n h))
 
 -- at most k digits below 10 ^ k
-length-most : (k n : ℕ) → n < 10 ^ suc k → length (decimal n) ≤ suc k
+pub length-most : (k n : ℕ) → n < 10 ^ suc k → length (decimal n) ≤ suc k
 length-most zero n h = omega (arith, length-small n (omega arith))
 length-most (suc k) n h = split n 10 (λ l. omega (arith, length-small n l)) (λ l. omega (arith, length-more n l, length-most k (n / 10) (omega arith)))
 

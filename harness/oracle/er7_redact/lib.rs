@@ -2,6 +2,7 @@
 use std::fmt;
 
 pub mod action;
+mod days;
 pub mod policy;
 pub mod pseudonym;
 pub mod redact;

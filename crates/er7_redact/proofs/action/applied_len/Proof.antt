@@ -1,8 +1,10 @@
 use borrow.Author.Needs.{needs}
 use Rattle.er7_redact.proofs.action.applied_len.Statement.{statement}
 use Rattle.er7_redact.proofs.action.applied_len.Tie as tie
-use mathlib.Core.Path.{ap}
+use mathlib.Core.Path.{_≡_, ap}
 use native.Mathlib.Omega.{arith}
+use mir.Syntax.{w64}
+use mir.Val.{toZ, ofZ}
 use lib.ListN.{length-replicate, length-take, length-drop}
 use Rattle.text.proofs.Spelling.{hexadecimal-length}
 use Rattle.er7_redact.specs.declared.action.Applied.the-variants.{Written}
@@ -42,6 +44,12 @@ kept-len-requires-2 c κs = search needs
 enum-told-5 : tie.Need-enum-told-5
 enum-told-5 c = search needs
 
+enum-known-a-4 : tie.Need-enum-known-a-4
+enum-known-a-4 c = search needs
+
+shifted-len-requires : tie.Need-shifted-len-requires
+shifted-len-requires c κs = search needs
+
 returns : tie.Need-returns
 unfolding apply asAction answer
 returns c = λ t key h. rw (c .enum-told .given .1)
@@ -76,6 +84,12 @@ returns-8 : tie.Need-returns-8
 unfolding apply asAction answer P.pseudonym
 returns-8 c = λ t key h. rw (c .enum-told5 .given .1, hexadecimal-length)
 
+returns-9 : tie.Need-returns-9
+unfolding apply asAction answer
+returns-9 c = λ t key h. let n = c .before .before .a4 .given .0 .0 in
+    let i : toZ w64 (ofZ w64 n) ≡ n = search needs in
+    rw (c .before .before .a4 .given .1, ← i) (ap Written (c .shifted-len .ensures))
+
 pub applied-len-spec : {M : Type 1} → statement M
 applied-len-spec =
     tie.close
@@ -91,6 +105,8 @@ applied-len-spec =
     enum-known-a-3
     kept-len-requires-2
     enum-told-5
+    enum-known-a-4
+    shifted-len-requires
     returns
     returns-2
     returns-3
@@ -98,4 +114,5 @@ applied-len-spec =
     returns-5
     returns-6
     returns-7
-    returns-8)
+    returns-8
+    returns-9)

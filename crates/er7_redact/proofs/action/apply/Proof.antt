@@ -2,6 +2,9 @@ use borrow.Author.Needs.{needs}
 use Rattle.er7_redact.proofs.action.apply.Statement.{statement}
 use Rattle.er7_redact.proofs.action.apply.Tie as tie
 use native.Mathlib.Omega.{arith}
+use mathlib.Core.Path.{_≡_}
+use mir.Syntax.{w64}
+use mir.Val.{toZ, ofZ}
 use lib.ListN.{length-replicate}
 use Rattle.text.proofs.Spelling.{hexadecimal-length}
 use Rattle.text.proofs.Writes.{wrote-none}
@@ -58,6 +61,15 @@ pseudonym-requires c κs =
     let p = rw (c .before .enum-told4 .given .1) at (c .before .before .before .before .before .before .pre .1) in
     omega (arith, rw (hexadecimal-length _) at p)
 
+enum-known-a-5 : tie.Need-enum-known-a-5
+enum-known-a-5 c = search needs
+
+shift-at-requires : tie.Need-shift-at-requires
+unfolding apply asAction room
+shift-at-requires c κs = let n = c .before .before .a5 .given .0 .0 in
+    let i : toZ w64 (ofZ w64 n) ≡ n = search needs in
+    rw i (rw (c .before .before .a5 .given .1) at (c .before .before .before .before .before .before .before .pre .1))
+
 returns : tie.Need-returns
 unfolding apply asAction written
 returns c = rw (c .enum-told .given .1) (wrote-none _ _ (omega (arith, c .before .before .before .before .before .pre .1)))
@@ -105,6 +117,15 @@ returns-8 : tie.Need-returns-8
 unfolding apply asAction written
 returns-8 c = rw (c .before .before .before .before .enum-told4 .given .1) (c .before .before .pseudonym .ensures)
 
+same-length-6 : tie.Need-same-length-6
+same-length-6 c = search needs
+
+returns-9 : tie.Need-returns-9
+unfolding apply asAction written
+returns-9 c = let n = c .before .before .before .before .before .a5 .given .0 .0 in
+    let i : toZ w64 (ofZ w64 n) ≡ n = search needs in
+    rw (c .before .before .before .before .before .a5 .given .1, ← i) (c .before .before .shift-at .ensures)
+
 pub apply-spec : {M : Type 1} → statement M
 apply-spec =
     tie.close
@@ -122,6 +143,8 @@ apply-spec =
     keep-last-requires
     enum-told-4
     pseudonym-requires
+    enum-known-a-5
+    shift-at-requires
     returns
     returns-2
     returns-3
@@ -134,4 +157,6 @@ apply-spec =
     same-length-4
     returns-7
     same-length-5
-    returns-8)
+    returns-8
+    same-length-6
+    returns-9)

@@ -1,8 +1,6 @@
 use borrow.Author.Needs.{needs}
 use Rattle.er7_redact.proofs.action.kind.Statement.{statement}
 use Rattle.er7_redact.proofs.action.kind.Tie as tie
-use Rattle.er7_redact.proofs.action.kind.Reads as reads
-use Rattle.er7_redact.proofs.action.kind.Lts as lts
 use Rattle.er7_redact.specs.Action.{kind, asAction}
 
 enum-told : tie.Need-enum-told
@@ -28,6 +26,9 @@ enum-told-7 c = search needs
 
 enum-told-8 : tie.Need-enum-told-8
 enum-told-8 c = search needs
+
+enum-told-9 : tie.Need-enum-told-9
+enum-told-9 c = search needs
 
 returns : tie.Need-returns
 unfolding kind asAction
@@ -61,6 +62,10 @@ returns-8 : tie.Need-returns-8
 unfolding kind asAction
 returns-8 c = λ t. rw (c .enum-told8 .given .1)
 
+returns-9 : tie.Need-returns-9
+unfolding kind asAction
+returns-9 c = λ t. rw (c .enum-told9 .given .1)
+
 pub kind-spec : {M : Type 1} → statement M
 kind-spec =
     tie.close
@@ -73,6 +78,7 @@ kind-spec =
     enum-told-6
     enum-told-7
     enum-told-8
+    enum-told-9
     returns
     returns-2
     returns-3
@@ -80,4 +86,5 @@ kind-spec =
     returns-5
     returns-6
     returns-7
-    returns-8)
+    returns-8
+    returns-9)

@@ -2,6 +2,9 @@ use borrow.Author.Needs.{needs}
 use Rattle.er7_redact.proofs.action.print.Statement.{statement}
 use Rattle.er7_redact.proofs.action.print.Tie as tie
 use native.Mathlib.Omega.{arith}
+use mathlib.Core.Path.{_≡_}
+use mir.Syntax.{w64}
+use mir.Val.{toZ, ofZ}
 use Rattle.text.specs.Text.{bytes}
 use Rattle.text.proofs.Writes.{wrote-then}
 use Rattle.er7_redact.specs.Action.{printAction, asAction}
@@ -104,6 +107,22 @@ copy-at-requires-8 : tie.Need-copy-at-requires-8
 unfolding printAction asAction bytes
 copy-at-requires-8 c κs = omega (arith, rw (c .before .before .enum-told4 .given .1) at (c .before .before .before .before .before .before .pre .1))
 
+enum-known-a-5 : tie.Need-enum-known-a-5
+enum-known-a-5 c = search needs
+
+slice-aggregate-copy-at-9 : tie.Need-slice-aggregate-copy-at-9
+slice-aggregate-copy-at-9 c = search needs
+
+copy-at-requires-9 : tie.Need-copy-at-requires-9
+unfolding printAction asAction bytes
+copy-at-requires-9 c κs = omega (arith, rw (c .before .before .before .a5 .given .1) at (c .before .before .before .before .before .before .before .pre .1))
+
+days-at-requires : tie.Need-days-at-requires
+unfolding printAction asAction bytes
+days-at-requires c κs = let a = c .before .before .before .before .before .before .before .a5 .given in
+    let i : toZ w64 (ofZ w64 (a .0 .0)) ≡ a .0 .0 = search needs in
+    rw i (omega (arith, rw (a .1) at (c .before .before .before .before .before .before .before .before .before .before .before .pre .1)))
+
 same-length : tie.Need-same-length
 same-length c = search needs
 
@@ -160,6 +179,15 @@ returns-8 : tie.Need-returns-8
 unfolding printAction asAction bytes
 returns-8 c = rw (c .before .before .before .before .before .enum-told4 .given .1) (c .before .before .copy-at8 .ensures)
 
+same-length-9 : tie.Need-same-length-9
+same-length-9 c = search needs
+
+returns-9 : tie.Need-returns-9
+unfolding printAction asAction bytes
+returns-9 c = let a = c .before .before .before .before .before .before .before .before .before .before .a5 .given in
+    let i : toZ w64 (ofZ w64 (a .0 .0)) ≡ a .0 .0 = search needs in
+    rw (a .1, ← i) (wrote-then (c .before .before .before .before .before .before .copy-at9 .ensures) (c .before .before .days-at .ensures))
+
 pub print-spec : {M : Type 1} → statement M
 print-spec =
     tie.close
@@ -192,6 +220,10 @@ print-spec =
     enum-told-4
     slice-aggregate-copy-at-8
     copy-at-requires-8
+    enum-known-a-5
+    slice-aggregate-copy-at-9
+    copy-at-requires-9
+    days-at-requires
     same-length
     returns
     same-length-2
@@ -207,4 +239,6 @@ print-spec =
     same-length-7
     returns-7
     same-length-8
-    returns-8)
+    returns-8
+    same-length-9
+    returns-9)

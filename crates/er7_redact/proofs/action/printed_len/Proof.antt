@@ -2,6 +2,9 @@ use borrow.Author.Needs.{needs}
 use Rattle.er7_redact.proofs.action.printed_len.Statement.{statement}
 use Rattle.er7_redact.proofs.action.printed_len.Tie as tie
 use native.Mathlib.Omega.{arith}
+use mathlib.Core.Path.{_≡_}
+use mir.Syntax.{w64}
+use mir.Val.{toZ, ofZ}
 use Rattle.text.specs.Text.{bytes}
 use Rattle.er7_redact.specs.Action.{printAction, asAction}
 
@@ -50,6 +53,15 @@ add-result-3 c = search needs
 enum-told-5 : tie.Need-enum-told-5
 enum-told-5 c = search needs
 
+enum-known-a-4 : tie.Need-enum-known-a-4
+enum-known-a-4 c = search needs
+
+days-len-requires : tie.Need-days-len-requires
+days-len-requires c κs = search needs
+
+add-result-4 : tie.Need-add-result-4
+add-result-4 c = search needs
+
 returns : tie.Need-returns
 unfolding printAction asAction bytes
 returns c = rw (c .enum-told .given .1)
@@ -84,6 +96,12 @@ returns-8 : tie.Need-returns-8
 unfolding printAction asAction bytes
 returns-8 c = rw (c .enum-told5 .given .1)
 
+returns-9 : tie.Need-returns-9
+unfolding printAction asAction bytes
+returns-9 c = let n = c .before .before .a4 .given .0 .0 in
+    let i : toZ w64 (ofZ w64 n) ≡ n = search needs in
+    rw (c .before .before .a4 .given .1, ← i) (omega (arith, c .days-len .ensures .0))
+
 pub printed-len-spec : {M : Type 1} → statement M
 printed-len-spec =
     tie.close
@@ -102,6 +120,9 @@ printed-len-spec =
     decimal-len-requires-2
     add-result-3
     enum-told-5
+    enum-known-a-4
+    days-len-requires
+    add-result-4
     returns
     returns-2
     returns-3
@@ -109,4 +130,5 @@ printed-len-spec =
     returns-5
     returns-6
     returns-7
-    returns-8)
+    returns-8
+    returns-9)

@@ -1,38 +1,16 @@
 use borrow.Author.Needs.{needs}
 use Rattle.er7_redact.proofs.action.read_count.Statement.{statement}
 use Rattle.er7_redact.proofs.action.read_count.Tie as tie
-use Rattle.er7_redact.proofs.Actions.{count-found, count-left, count-none}
-use Rattle.text.proofs.Decimals.{known}
+use Rattle.er7_redact.proofs.Actions.{count-read}
 
 without-plus-requires : tie.Need-without-plus-requires
 without-plus-requires c κs = search needs
 
-number-at-requires : tie.Need-number-at-requires
-number-at-requires c κs = search needs
-
-enum-known-n : tie.Need-enum-known-n
-enum-known-n c = search needs
+read-whole-requires : tie.Need-read-whole-requires
+read-whole-requires c κs = search needs
 
 returns : tie.Need-returns
-returns c = count-found (c .before .before .before .before .before .without-plus .ensures) (known (c .before .before .before .before .number-at .ensures) (c .before .before .n .given .1)) (c .if1 .taken)
-
-enum-told : tie.Need-enum-told
-enum-told c = search needs
-
-returns-2 : tie.Need-returns-2
-returns-2 c = count-left (c .before .before .before .before .before .without-plus .ensures) (known (c .before .before .before .before .number-at .ensures) (c .before .before .n .given .1)) (c .if1 .left)
-
-returns-3 : tie.Need-returns-3
-returns-3 c = count-none (c .before .before .before .without-plus .ensures) (known (c .before .before .number-at .ensures) (c .enum-told .given .1))
+returns c = count-read (c .before .without-plus .ensures) (c .read-whole .ensures)
 
 pub read-count-spec : {M : Type 1} → statement M
-read-count-spec =
-    tie.close
-    (tie.spec
-    without-plus-requires
-    number-at-requires
-    enum-known-n
-    returns
-    enum-told
-    returns-2
-    returns-3)
+read-count-spec = tie.close (tie.spec without-plus-requires read-whole-requires returns)

@@ -45,9 +45,19 @@ returns-4 : tie.Need-returns-4
 unfolding verbWithArgument bytes
 returns-4 c = sym (rw (sym (c .before .before .before .before .before .before .before .before .before .before .is-word .ensures) ∙ c .before .before .before .before .before .before .before .before .before .if1 .left, sym (c .before .before .before .before .before .before .before .is-word2 .ensures) ∙ c .before .before .before .before .before .before .if2 .left, sym (c .before .before .before .before .is-word3 .ensures) ∙ c .before .before .before .if3 .left, sym (c .before .is-word4 .ensures) ∙ c .if4 .taken))
 
+slice-aggregate-is-word-5 : tie.Need-slice-aggregate-is-word-5
+slice-aggregate-is-word-5 c = search needs
+
+is-word-requires-5 : tie.Need-is-word-requires-5
+is-word-requires-5 c κs = search needs
+
 returns-5 : tie.Need-returns-5
 unfolding verbWithArgument bytes
-returns-5 c = sym (rw (sym (c .before .before .before .before .before .before .before .before .before .before .is-word .ensures) ∙ c .before .before .before .before .before .before .before .before .before .if1 .left, sym (c .before .before .before .before .before .before .before .is-word2 .ensures) ∙ c .before .before .before .before .before .before .if2 .left, sym (c .before .before .before .before .is-word3 .ensures) ∙ c .before .before .before .if3 .left, sym (c .before .is-word4 .ensures) ∙ c .if4 .left))
+returns-5 c = sym (rw (sym (c .before .before .before .before .before .before .before .before .before .before .before .before .before .is-word .ensures) ∙ c .before .before .before .before .before .before .before .before .before .before .before .before .if1 .left, sym (c .before .before .before .before .before .before .before .before .before .before .is-word2 .ensures) ∙ c .before .before .before .before .before .before .before .before .before .if2 .left, sym (c .before .before .before .before .before .before .before .is-word3 .ensures) ∙ c .before .before .before .before .before .before .if3 .left, sym (c .before .before .before .before .is-word4 .ensures) ∙ c .before .before .before .if4 .left, sym (c .before .is-word5 .ensures) ∙ c .if5 .taken))
+
+returns-6 : tie.Need-returns-6
+unfolding verbWithArgument bytes
+returns-6 c = sym (rw (sym (c .before .before .before .before .before .before .before .before .before .before .before .before .before .is-word .ensures) ∙ c .before .before .before .before .before .before .before .before .before .before .before .before .if1 .left, sym (c .before .before .before .before .before .before .before .before .before .before .is-word2 .ensures) ∙ c .before .before .before .before .before .before .before .before .before .if2 .left, sym (c .before .before .before .before .before .before .before .is-word3 .ensures) ∙ c .before .before .before .before .before .before .if3 .left, sym (c .before .before .before .before .is-word4 .ensures) ∙ c .before .before .before .if4 .left, sym (c .before .is-word5 .ensures) ∙ c .if5 .left))
 
 pub verb-with-argument-spec : {M : Type 1} → statement M
 verb-with-argument-spec =
@@ -65,4 +75,7 @@ verb-with-argument-spec =
     slice-aggregate-is-word-4
     is-word-requires-4
     returns-4
-    returns-5)
+    slice-aggregate-is-word-5
+    is-word-requires-5
+    returns-5
+    returns-6)

@@ -25,14 +25,20 @@ enum-known-a c = search needs
 enum-known-a-2 : tie.Need-enum-known-a-2
 enum-known-a-2 c = search needs
 
-cast-t8 : tie.Need-cast-t8
-cast-t8 c = search needs
+cast-t9 : tie.Need-cast-t9
+cast-t9 c = search needs
 
 enum-known-a-3 : tie.Need-enum-known-a-3
 enum-known-a-3 c = search needs
 
 enum-known-a-4 : tie.Need-enum-known-a-4
 enum-known-a-4 c = search needs
+
+enum-known-a-5 : tie.Need-enum-known-a-5
+enum-known-a-5 c = search needs
+
+code-of-days-requires : tie.Need-code-of-days-requires
+code-of-days-requires c κs = search needs
 
 returns : tie.Need-returns
 unfolding actionOf
@@ -66,6 +72,9 @@ returns-8 : tie.Need-returns-8
 unfolding actionOf
 returns-8 c = sym (c .before .a4 .given .1)
 
+returns-9 : tie.Need-returns-9
+returns-9 c = c .code-of-days .ensures ∙ ap Held.Shift (search needs) ∙ sym (c .before .before .a5 .given .1)
+
 pub code-of-spec : {M : Type 1} → statement M
 code-of-spec =
     tie.close
@@ -76,9 +85,11 @@ code-of-spec =
     enum-told-4
     enum-known-a
     enum-known-a-2
-    cast-t8
+    cast-t9
     enum-known-a-3
     enum-known-a-4
+    enum-known-a-5
+    code-of-days-requires
     returns
     returns-2
     returns-3
@@ -86,4 +97,5 @@ code-of-spec =
     returns-5
     returns-6
     returns-7
-    returns-8)
+    returns-8
+    returns-9)

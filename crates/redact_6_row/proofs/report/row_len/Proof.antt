@@ -40,6 +40,7 @@ count-bits c = go (c .args .a) refl
     go (Held.First n) e = let h = rw e at (c .good .1 .1 .0) in omega (arith, h)
     go (Held.Last n) e = let h = rw e at (c .good .1 .1 .0) in omega (arith, h)
     go Held.Pseudonym e = tt
+    go (Held.Shift z) e = let h = rw e at (c .good .1 .1 .0) in omega (arith, h)
 
 most : (c : Start) → length (printRow (row (asLabel (c .args .g)) (c .args .p) (asAction (c .args .text .now) (c .args .a)))) ≤ length (c .args .text .now) + 138
 most c = row-most (c .args .g) (c .args .p) (c .args .text .now) (c .args .a) (record {

@@ -1,0 +1,10 @@
+pub mod Sums
+pub mod YearLaws
+pub mod MonthLaws
+pub mod DateLaws
+pub mod SignedLaws
+pub mod Places
+pub mod Moves
+pub mod Digits
+pub mod TextLaws
+pub mod Theorems
