@@ -25,20 +25,20 @@ use Rattle.refusal.specs.declared.Refusal.the-variants.{BadAction, BadDayCount}
 use Rattle.er7_redact.specs.declared.action.ParsedAction.{ParsedAction}
 use Rattle.er7_redact.specs.declared.action.ParsedAction.the-variants.{Parsed, Refused}
 use Rattle.er7_redact.specs.Action.{Action, shift, replacement, name, argument, argumentAt, verb, readAction, withoutPlus, whole, readCount, isNegative, withoutSign, daysOf, readDays, readMask, readReplace, readArgument, bare, heldAs, refusalOf, orRefused, heldAction, heldRead, answer, written, room}
-use Rattle.er7_redact.specs.Inner.{heldBare, heldCount, heldCounted, heldDays, countOf, CountFrom, DaysFrom}
+use Rattle.er7_redact.specs.Inner.{heldBare, heldCount, heldCounted, heldDays, countOf, Unsigned}
 
 -- ---- counts
 
 module _ {s : Text} {i : ℕ} where
-  pub plus-yes : i < length s → getD s i 0 ≡ 0x2b → CountFrom s i (i + 1)
+  pub plus-yes : i < length s → getD s i 0 ≡ 0x2b → Unsigned withoutPlus s i (i + 1)
   unfolding withoutPlus
   plus-yes h e = record { high = omega arith; is = sym (rw (drop-step s i h, eq-eqb (getD s i 0) 0x2b e)) }
 
-  pub plus-no : i < length s → (getD s i 0 ≡ 0x2b → ⊥) → CountFrom s i i
+  pub plus-no : i < length s → (getD s i 0 ≡ 0x2b → ⊥) → Unsigned withoutPlus s i i
   unfolding withoutPlus
   plus-no h e = record { high = omega arith; is = sym (rw (drop-step s i h, ne-eqb (getD s i 0) 0x2b e)) }
 
-  pub plus-end : i ≤ length s → length s ≤ i → CountFrom s i i
+  pub plus-end : i ≤ length s → length s ≤ i → Unsigned withoutPlus s i i
   unfolding withoutPlus
   plus-end l h = record { high = l; is = rw (drop-of-length-le s h) }
 
@@ -56,7 +56,7 @@ module _ {s : Text} {k : ℕ} where
   unfolding heldCount whole asTaken
   whole-none g = sym (rw (← g .is))
 
-pub count-read : {s : Text} {i k : ℕ} {c : Count} → CountFrom s i k → c ≡ heldCount (whole (takeNumber (drop k s))) → c ≡ heldCount (readCount (drop i s))
+pub count-read : {s : Text} {i k : ℕ} {c : Count} → Unsigned withoutPlus s i k → c ≡ heldCount (whole (takeNumber (drop k s))) → c ≡ heldCount (readCount (drop i s))
 unfolding readCount
 count-read f e = e ∙ ap (λ (t : Text). heldCount (whole (takeNumber t))) (f .is)
 
@@ -72,15 +72,15 @@ module _ (s : Text) (i : ℕ) where
   minus-end h = sym (rw (drop-of-length-le s h))
 
 module _ {s : Text} {i : ℕ} where
-  pub sign-yes : i < length s → (eqb (getD s i 0) 0x2b || eqb (getD s i 0) 0x2d) ≡ true → DaysFrom s i (i + 1)
+  pub sign-yes : i < length s → (eqb (getD s i 0) 0x2b || eqb (getD s i 0) 0x2d) ≡ true → Unsigned withoutSign s i (i + 1)
   unfolding withoutSign
   sign-yes h e = record { high = omega arith; is = sym (rw (drop-step s i h, e)) }
 
-  pub sign-no : i < length s → (eqb (getD s i 0) 0x2b || eqb (getD s i 0) 0x2d) ≡ false → DaysFrom s i i
+  pub sign-no : i < length s → (eqb (getD s i 0) 0x2b || eqb (getD s i 0) 0x2d) ≡ false → Unsigned withoutSign s i i
   unfolding withoutSign
   sign-no h e = record { high = omega arith; is = sym (rw (drop-step s i h, e)) }
 
-  pub sign-end : i ≤ length s → length s ≤ i → DaysFrom s i i
+  pub sign-end : i ≤ length s → length s ≤ i → Unsigned withoutSign s i i
   unfolding withoutSign
   sign-end l h = record { high = l; is = rw (drop-of-length-le s h) }
 
@@ -151,7 +151,7 @@ module _ {v w : Verb} (j n : ℕ) (t : Text) (e : v ≡ w) (b : refusalOf w ≡ 
       let a : readArgument v t ≡ Option·map f (readCount t) = rw e (h t) in
       by-verb (q ∙ rw (p, a) (count-held j n f g k (readCount t)))
 
-pub by-days : {s : Text} {i k : ℕ} (j n : ℕ) {v : Verb} {m : Bool} {c : Count} {r : ParsedAction} → v ≡ Verbs.Shift → m ≡ isNegative (drop i s) → DaysFrom s i k
+pub by-days : {s : Text} {i k : ℕ} (j n : ℕ) {v : Verb} {m : Bool} {c : Count} {r : ParsedAction} → v ≡ Verbs.Shift → m ≡ isNegative (drop i s) → Unsigned withoutSign s i k
     → c ≡ heldCount (whole (takeNumber (drop k s))) → r ≡ heldDays (daysOf m (countOf c)) → r ≡ heldRead j n (orRefused (refusalOf v) (readArgument v (drop i s)))
 unfolding refusalOf readArgument readDays
 by-days {s} {i} {k} j n e f g h q =

@@ -13,7 +13,6 @@ use Rattle.er7_redact.specs.declared.action.ParsedAction.{ParsedAction}
 use Rattle.er7_redact.specs.declared.action.ParsedAction.the-variants.{Parsed, Refused}
 use Rattle.er7_redact.specs.declared.action.Count.{Count}
 use Rattle.er7_redact.specs.declared.action.Count.the-variants.{Of, BadCount}
-use Rattle.er7_redact.specs.Action.{withoutPlus, withoutSign}
 
 -- the enum for an action a that takes no argument, where s stands in the argument's place
 unfoldable pub heldBare : HeldAction → Text → ParsedAction
@@ -39,12 +38,7 @@ unfoldable pub heldDays : Option ℤ → ParsedAction
 heldDays none = Refused BadDayCount
 heldDays (some z) = Parsed (Held.Shift z)
 
--- r is where the count begins that stands in s from index i on, behind its sign
-pub record CountFrom (s : Text) (i r : ℕ) : Type 0 where
+-- r is where what stands in s from index i on begins without its sign: without a plus, or without a sign of either kind
+pub record Unsigned (without : Text → Text) (s : Text) (i r : ℕ) : Type 0 where
   pub high : r ≤ length s
-  pub is : drop r s ≡ withoutPlus (drop i s)
-
--- .. and where the digits begin, behind a sign of either kind
-pub record DaysFrom (s : Text) (i r : ℕ) : Type 0 where
-  pub high : r ≤ length s
-  pub is : drop r s ≡ withoutSign (drop i s)
+  pub is : drop r s ≡ without (drop i s)

@@ -17,10 +17,10 @@ ghost use mathlib.Core.Path.{_≡_};
 ghost use Prim.Native.Nat.{ℕ, _+_, _-_, _^_, _≤_, _<_, min};
 ghost use lib.ListN.{length, take, drop};
 ghost use Rattle.text.specs.Text.{Text, Wrote};
-ghost use Rattle.er7_redact.specs.Action.{verbWithArgument, verb, whole, readCount, readMask, isNegative, DAYS_MAX, daysOf, readArgument, refusalOf, orRefused, readAction, printDays, printAction, replacement, asAction, ActionHeld, heldAction, heldRead, argument, argumentAt, answer, written, room, isKeep, isNullAction};
+ghost use Rattle.er7_redact.specs.Action.{verbWithArgument, verb, withoutPlus, whole, readCount, readMask, isNegative, withoutSign, DAYS_MAX, daysOf, readArgument, refusalOf, orRefused, readAction, printDays, printAction, replacement, asAction, ActionHeld, heldAction, heldRead, argument, argumentAt, answer, written, room, isKeep, isNullAction};
 ghost use Rattle.text.specs.Number.{takeNumber};
 ghost use lib.IntN.{natAbs};
-ghost use Rattle.er7_redact.specs.Inner.{CountFrom, DaysFrom, heldBare, heldCounted, heldCount, heldDays, countOf};
+ghost use Rattle.er7_redact.specs.Inner.{Unsigned, heldBare, heldCounted, heldCount, heldDays, countOf};
 ghost use Rattle.er7_redact.specs.Action as Spec;
 
 // The actions. A replacement is len bytes of a text from index start on; len is 0 for that of a bare `replace`.
@@ -141,7 +141,7 @@ fn verb_of(s: &[u8]) -> Verb
 // Where the count begins that stands in s from index i on, behind a `+` if there is one.
 fn without_plus(s: &[u8], i: usize) -> usize
     requires { ⌜ i ≤ length (now s) ⌝ }
-    ensures { λ r. ⌜ CountFrom (now (s .entry)) i r ⌝ }
+    ensures { λ r. ⌜ Unsigned withoutPlus (now (s .entry)) i r ⌝ }
 {
     if i < s.len() {
         if s[i] == b'+' {
@@ -233,7 +233,7 @@ fn is_negative(s: &[u8], i: usize) -> bool
 // Where the digits begin that stand in s from index i on, behind a sign if there is one.
 fn without_sign(s: &[u8], i: usize) -> usize
     requires { ⌜ i ≤ length (now s) ⌝ }
-    ensures { λ r. ⌜ DaysFrom (now (s .entry)) i r ⌝ }
+    ensures { λ r. ⌜ Unsigned withoutSign (now (s .entry)) i r ⌝ }
 {
     if i < s.len() {
         if (s[i] == b'+') | (s[i] == b'-') {
