@@ -11,61 +11,61 @@ use lib.Dec.{eqb}
 use lib.ListN.{length, take, drop, get_or, set, length-drop}
 use lib.Seq.{take-suc, take_all}
 use Rattle.text.specs.declared.bytes.Class.TheVariants.{Digit}
-use Rattle.text.specs.Text.{Text, isDigit, isIn, rest, part, all, RunEnd, Wrote}
+use Rattle.text.specs.Text.{Text, is_digit, is_in, rest, part, all, RunEnd, Wrote}
 use Rattle.text.specs.Number.{worth, positional}
-use Rattle.text.proofs.Laws.{split, and_left, and_right, and-true}
-use Rattle.text.proofs.Runs.{stop, rest_all, all-run, all_append}
-use Rattle.text.proofs.Spelling.{Spelling, spelling-more, spelling-end}
-use Rattle.text.proofs.Decimals.{digit_low, digit-high}
+use Rattle.text.proofs.Laws.{split, and_left, and_right, and_true}
+use Rattle.text.proofs.Runs.{stop, rest_all, all_run, all_append}
+use Rattle.text.proofs.Spelling.{Spelling, spelling_more, spelling_end}
+use Rattle.text.proofs.Decimals.{digit_low, digit_high}
 use Rattle.calendar.specs.Shift.{digit}
 
 -- ---- a text of digits
 
 -- a run of digits from the front ends at the end of the text exactly if all its bytes are digits
-module _ (s : Text) {e : ℕ} (r : RunEnd (isIn Digit) s 0 e) where
-  whole_run : length s ≤ e → all isDigit s ≡ true
-  unfolding isIn part
-  whole_run h = subst (λ (t : Text). all isDigit t ≡ true) (sym r.run_is ∙ take_all (e - 0) s (omega arith)) (all-run isDigit s)
+module _ (s : Text) {e : ℕ} (r : RunEnd (is_in Digit) s 0 e) where
+  whole_run : length s ≤ e → all is_digit s ≡ true
+  unfolding is_in part
+  whole_run h = subst (λ (t : Text). all is_digit t ≡ true) (sym r.run_is ∙ take_all (e - 0) s (omega arith)) (all_run is_digit s)
 
-  part-run : e < length s → (b : Bool) → all isDigit s ≡ b → b ≡ false
-  unfolding isIn
-  part-run h false k = refl
-  part-run h true k =
-      let q : drop e s ≡ [] = r.rest-is ∙ ap (rest isDigit) (sym (append-nil s)) ∙ rest_all isDigit s [] k (unfold stop in refl) in
+  part_run : e < length s → (b : Bool) → all is_digit s ≡ b → b ≡ false
+  unfolding is_in
+  part_run h false k = refl
+  part_run h true k =
+      let q : drop e s ≡ [] = r.rest_is ∙ ap (rest is_digit) (sym (append-nil s)) ∙ rest_all is_digit s [] k (unfold stop in refl) in
       absurd (omega (arith, ap length q, length-drop e s))
 
-  pub digits-told : eqb e (length s) ≡ all isDigit s
-  digits-told =
+  pub digits_told : eqb e (length s) ≡ all is_digit s
+  digits_told =
       split e (length s)
-      (λ h. ne_eqb e (length s) (λ q. omega arith) ∙ sym (part-run h (all isDigit s) refl))
+      (λ h. ne_eqb e (length s) (λ q. omega arith) ∙ sym (part_run h (all is_digit s) refl))
       (λ h. eq-eqb e (length s) (omega (arith, r.high)) ∙ sym (whole_run h))
 
-digit_at : (s : Text) (i : ℕ) → all isDigit s ≡ true → i < length s → isDigit (get_or s i 0) ≡ true
+digit_at : (s : Text) (i : ℕ) → all is_digit s ≡ true → i < length s → is_digit (get_or s i 0) ≡ true
 unfolding all
 digit_at [] i e h = absurd (omega arith)
-digit_at (x ∷ s) zero e h = and_left (isDigit x) (all isDigit s) e
-digit_at (x ∷ s) (suc i) e h = digit_at s i (and_right (isDigit x) (all isDigit s) e) (omega arith)
+digit_at (x ∷ s) zero e h = and_left (is_digit x) (all is_digit s) e
+digit_at (x ∷ s) (suc i) e h = digit_at s i (and_right (is_digit x) (all is_digit s) e) (omega arith)
 
 -- ---- what digits are worth
 
-worth-append : (a : ℕ) (s t : Text) → worth a (s ++ t) ≡ worth (worth a s) t
+worth_append : (a : ℕ) (s t : Text) → worth a (s ++ t) ≡ worth (worth a s) t
 unfolding worth
-worth-append a [] t = refl
-worth-append a (x ∷ s) t = worth-append (a * 10 + (x - 48)) s t
+worth_append a [] t = refl
+worth_append a (x ∷ s) t = worth_append (a * 10 + (x - 48)) s t
 
 -- 10 to the power i
 unfoldable pub limit : ℕ → ℕ
 limit zero = 1
 limit (suc i) = 10 * limit i
 
-limit-grows : (i j : ℕ) → limit i ≤ limit (j + i)
+limit_grows : (i j : ℕ) → limit i ≤ limit (j + i)
 unfolding limit
-limit-grows i zero = rw (zero-add i) (omega arith)
-limit-grows i (suc j) = rw (suc-add j i) (omega (arith, limit-grows i j))
+limit_grows i zero = rw (zero-add i) (omega arith)
+limit_grows i (suc j) = rw (suc-add j i) (omega (arith, limit_grows i j))
 
-limit-most : (i : ℕ) → i < 8 → limit i ≤ 10000000
+limit_most : (i : ℕ) → i < 8 → limit i ≤ 10000000
 unfolding limit
-limit-most i h = let e : (7 - i) + i ≡ 7 = omega arith in omega (arith, rw e at (limit-grows i (7 - i)))
+limit_most i h = let e : (7 - i) + i ≡ 7 = omega arith in omega (arith, rw e at (limit_grows i (7 - i)))
 
 -- n is what the first i of eight digits are worth
 pub record Reading (s : Text) (i n : ℕ) : Type 0 where
@@ -73,90 +73,90 @@ pub record Reading (s : Text) (i n : ℕ) : Type 0 where
   pub small : n < limit i
   pub is : n ≡ worth 0 (take i s)
 
-pub reading-start : (s : Text) → Reading s 0 0
+pub reading_start : (s : Text) → Reading s 0 0
 unfolding limit worth
-reading-start s = record { most = omega arith; small = omega arith; is = refl }
+reading_start s = record { most = omega arith; small = omega arith; is = refl }
 
-module _ {s : Text} {i n : ℕ} (r : Reading s i n) (l : 8 ≤ length s) (a : all isDigit s ≡ true) (h : i < 8) where
-  pub reading-low : 48 ≤ get_or s i 0
-  reading-low = digit_low (get_or s i 0) (digit_at s i a (omega arith))
+module _ {s : Text} {i n : ℕ} (r : Reading s i n) (l : 8 ≤ length s) (a : all is_digit s ≡ true) (h : i < 8) where
+  pub reading_low : 48 ≤ get_or s i 0
+  reading_low = digit_low (get_or s i 0) (digit_at s i a (omega arith))
 
-  pub reading-fits : n * 10 + (get_or s i 0 - 48) < 100000000
-  reading-fits = omega (arith, r.small, limit-most i h, digit-high (get_or s i 0) (digit_at s i a (omega arith)))
+  pub reading_fits : n * 10 + (get_or s i 0 - 48) < 100000000
+  reading_fits = omega (arith, r.small, limit_most i h, digit_high (get_or s i 0) (digit_at s i a (omega arith)))
 
-  pub reading-more : Reading s (i + 1) (n * 10 + (get_or s i 0 - 48))
+  pub reading_more : Reading s (i + 1) (n * 10 + (get_or s i 0 - 48))
   unfolding limit worth
-  reading-more = rw (add-one i) (record {
+  reading_more = rw (add-one i) (record {
     most = h;
-    small = omega (arith, r.small, digit-high (get_or s i 0) (digit_at s i a (omega arith)));
-    is = sym (rw (take-suc s i 0 (omega arith), worth-append 0 (take i s) (get_or s i 0 ∷ []), r.is));
+    small = omega (arith, r.small, digit_high (get_or s i 0) (digit_at s i a (omega arith)));
+    is = sym (rw (take-suc s i 0 (omega arith), worth_append 0 (take i s) (get_or s i 0 ∷ []), r.is));
   })
 
-pub reading-end : {s : Text} {i n : ℕ} → Reading s i n → 8 ≤ i → n ≡ worth 0 (take 8 s)
-reading-end {s} {i} r h = let e : i ≡ 8 = omega (arith, r.most) in r.is ∙ rw e
+pub reading_end : {s : Text} {i n : ℕ} → Reading s i n → 8 ≤ i → n ≡ worth 0 (take 8 s)
+reading_end {s} {i} r h = let e : i ≡ 8 = omega (arith, r.most) in r.is ∙ rw e
 
 -- ---- eight digits of a number, written from the last to the first
 
 module _ {n at : ℕ} {d₀ d : Text} where
-  pub spell-more : {m : ℕ} (i v : ℕ) → i < 8 → Spelling 10 digit 8 n d₀ at d (8 - i) m → at + 8 ≤ length d₀ → v ≡ digit (m % 10)
+  pub spell_more : {m : ℕ} (i v : ℕ) → i < 8 → Spelling 10 digit 8 n d₀ at d (8 - i) m → at + 8 ≤ length d₀ → v ≡ digit (m % 10)
       → Spelling 10 digit 8 n d₀ at (set d (at + 7 - i) v) (8 - (i + 1)) (m / 10)
-  spell-more {m} i v h g l e =
+  spell_more {m} i v h g l e =
       let q : at + (7 - i) ≡ at + 7 - i = omega arith in
       subst (λ (j : ℕ). Spelling 10 digit 8 n d₀ at (set d j v) (8 - (i + 1)) (m / 10)) q
-      (spelling-more 10 digit (7 - i) (8 - (i + 1)) v g (omega arith) (omega arith) (omega arith) e)
+      (spelling_more 10 digit (7 - i) (8 - (i + 1)) v g (omega arith) (omega arith) (omega arith) e)
 
-  pub spell-end : {k i m : ℕ} → n ≡ k → 8 ≤ i → Spelling 10 digit 8 n d₀ at d (8 - i) m → at + 8 ≤ length d₀ → Wrote d₀ at (positional 10 digit 8 k) d (at + 8)
-  spell-end e h g l = rw e at (spelling-end 10 digit g (omega arith) (omega arith))
+  pub spell_end : {k i m : ℕ} → n ≡ k → 8 ≤ i → Spelling 10 digit 8 n d₀ at d (8 - i) m → at + 8 ≤ length d₀ → Wrote d₀ at (positional 10 digit 8 k) d (at + 8)
+  spell_end e h g l = rw e at (spelling_end 10 digit g (omega arith) (omega arith))
 
 -- ---- spelling and reading are inverse
 
-last-digit : (k a x : ℕ) → 48 ≤ x → x ≤ 57 → positional 10 digit (suc k) (a * 10 + (x - 48)) ≡ positional 10 digit k a ++ (x ∷ [])
+last_digit : (k a x : ℕ) → 48 ≤ x → x ≤ 57 → positional 10 digit (suc k) (a * 10 + (x - 48)) ≡ positional 10 digit k a ++ (x ∷ [])
 unfolding positional digit
-last-digit k a x h g =
+last_digit k a x h g =
     let q : (a * 10 + (x - 48)) / 10 ≡ a = omega arith in
     let r : 48 + (a * 10 + (x - 48)) % 10 ≡ x = omega arith in
     rw (q, r)
 
 -- the digits of what s is worth behind a are those of a, and s
-spelled-from : (a k : ℕ) (s : Text) → all isDigit s ≡ true → positional 10 digit (k + length s) (worth a s) ≡ positional 10 digit k a ++ s
+spelled_from : (a k : ℕ) (s : Text) → all is_digit s ≡ true → positional 10 digit (k + length s) (worth a s) ≡ positional 10 digit k a ++ s
 unfolding all worth
-spelled-from a k [] e = rw (add-zero k) (sym (append-nil (positional 10 digit k a)))
-spelled-from a k (x ∷ s) e =
-    let d = and_left (isDigit x) (all isDigit s) e in
+spelled_from a k [] e = rw (add-zero k) (sym (append-nil (positional 10 digit k a)))
+spelled_from a k (x ∷ s) e =
+    let d = and_left (is_digit x) (all is_digit s) e in
     rw (add-suc k (length s), ← suc-add k (length s))
-    (spelled-from (a * 10 + (x - 48)) (suc k) s (and_right (isDigit x) (all isDigit s) e)
-    ∙ ap (λ l. l ++ s) (last-digit k a x (digit_low x d) (digit-high x d)) ∙ append_assoc (positional 10 digit k a) (x ∷ []) s)
+    (spelled_from (a * 10 + (x - 48)) (suc k) s (and_right (is_digit x) (all is_digit s) e)
+    ∙ ap (λ l. l ++ s) (last_digit k a x (digit_low x d) (digit_high x d)) ∙ append_assoc (positional 10 digit k a) (x ∷ []) s)
 
-pub spelled : (s : Text) → all isDigit s ≡ true → positional 10 digit (length s) (worth 0 s) ≡ s
+pub spelled : (s : Text) → all is_digit s ≡ true → positional 10 digit (length s) (worth 0 s) ≡ s
 unfolding positional
-spelled s e = rw (zero-add (length s)) at (spelled-from 0 0 s e)
+spelled s e = rw (zero-add (length s)) at (spelled_from 0 0 s e)
 
 -- n has k digits
 unfoldable pub Short : ℕ → ℕ → Type 0
 Short zero n = n ≡ 0
 Short (suc k) n = Short k (n / 10)
 
-worth-positional : (k n : ℕ) → Short k n → worth 0 (positional 10 digit k n) ≡ n
+worth_positional : (k n : ℕ) → Short k n → worth 0 (positional 10 digit k n) ≡ n
 unfolding Short positional worth digit
-worth-positional zero n h = sym h
-worth-positional (suc k) n h =
-    worth-append 0 (positional 10 digit k (n / 10)) (digit (n % 10) ∷ []) ∙ rw (worth-positional k (n / 10) h) (omega arith)
+worth_positional zero n h = sym h
+worth_positional (suc k) n h =
+    worth_append 0 (positional 10 digit k (n / 10)) (digit (n % 10) ∷ []) ∙ rw (worth_positional k (n / 10) h) (omega arith)
 
-pub worth-eight : (n : ℕ) → n < 100000000 → worth 0 (positional 10 digit 8 n) ≡ n
+pub worth_eight : (n : ℕ) → n < 100000000 → worth 0 (positional 10 digit 8 n) ≡ n
 unfolding Short
-worth-eight n h = worth-positional 8 n (omega arith)
+worth_eight n h = worth_positional 8 n (omega arith)
 
-pub all-positional : (k n : ℕ) → all isDigit (positional 10 digit k n) ≡ true
-unfolding positional all isDigit digit
-all-positional zero n = refl
-all-positional (suc k) n =
-    all_append isDigit (positional 10 digit k (n / 10)) (digit (n % 10) ∷ []) (all-positional k (n / 10))
+pub all_positional : (k n : ℕ) → all is_digit (positional 10 digit k n) ≡ true
+unfolding positional all is_digit digit
+all_positional zero n = refl
+all_positional (suc k) n =
+    all_append is_digit (positional 10 digit k (n / 10)) (digit (n % 10) ∷ []) (all_positional k (n / 10))
     (rw (le-leb 48 (48 + n % 10) (omega arith), le-leb (48 + n % 10) 57 (omega arith)))
 
 -- both parts of a text of digits
-pub all-parts : (a b : Text) → all isDigit (a ++ b) ≡ true → (all isDigit a ≡ true) × (all isDigit b ≡ true)
+pub all_parts : (a b : Text) → all is_digit (a ++ b) ≡ true → (all is_digit a ≡ true) × (all is_digit b ≡ true)
 unfolding all
-all-parts [] b e = (refl, e)
-all-parts (x ∷ a) b e =
-    let r = all-parts a b (and_right (isDigit x) (all isDigit (a ++ b)) e) in
-    (and-true (isDigit x) (all isDigit a) (and_left (isDigit x) (all isDigit (a ++ b)) e) r.0, r.1)
+all_parts [] b e = (refl, e)
+all_parts (x ∷ a) b e =
+    let r = all_parts a b (and_right (is_digit x) (all is_digit (a ++ b)) e) in
+    (and_true (is_digit x) (all is_digit a) (and_left (is_digit x) (all is_digit (a ++ b)) e) r.0, r.1)

@@ -1,24 +1,24 @@
 // The action `shift n`: a date in a text, moved by days.
 ghost use Rattle.std.specs.Prelude.{◌≡◌, true, ◌+◌, ◌≤◌, pos, ◌+ℤ◌, length, take};
-ghost use Rattle.text.specs.Text.{isDigit, all, Wrote};
+ghost use Rattle.text.specs.Text.{is_digit, all, Wrote};
 ghost use Rattle.text.specs.Number.{worth};
-ghost use Rattle.calendar.specs.Calendar.{isDate, dayNumber, inYears};
-ghost use Rattle.calendar.specs.Inner.{DayRoom, dayText};
-ghost use Rattle.calendar.specs.Shift.{target, stamp, dateIn, dateText, front, isLong, isDated, isMoved, shifted};
+ghost use Rattle.calendar.specs.Calendar.{is_date, day_number, in_years};
+ghost use Rattle.calendar.specs.Inner.{DayRoom, day_text};
+ghost use Rattle.calendar.specs.Shift.{target, stamp, date_in, date_text, front, is_long, is_dated, is_moved, shifted};
 
 use super::dates::{Date, date_of, day_number, is_date};
 use text::bytes::{Class, copy_at, run_end};
 
 // Whether every byte is a digit.
 fn all_digits(s: &[u8]) -> bool
-    ensures { result ≡ all isDigit s.now }
+    ensures { result ≡ all is_digit s.now }
 {
     run_end(s, 0, Class::Digit) == s.len()
 }
 
 // The number of the first eight digits.
 fn eight_digits(s: &[u8]) -> u64
-    requires { (8 ≤ length s.now) × (all isDigit s.now ≡ true) }
+    requires { (8 ≤ length s.now) × (all is_digit s.now ≡ true) }
     ensures { result ≡ worth 0 (take 8 s.now) }
 {
     let mut n: u64 = 0;
@@ -32,7 +32,7 @@ fn eight_digits(s: &[u8]) -> u64
 
 // The date that a number YYYYMMDD says.
 fn date_in(n: u64) -> Date
-    ensures { result ≡ dateIn n }
+    ensures { result ≡ date_in n }
 {
     Date {
         year: n / 10000,
@@ -43,7 +43,7 @@ fn date_in(n: u64) -> Date
 
 // The number YYYYMMDD of a date.
 fn stamp_of(date: Date) -> u64
-    requires { isDate date ≡ true }
+    requires { is_date date ≡ true }
     ensures { result ≡ stamp date }
 {
     date.year * 10000 + date.month * 100 + date.day
@@ -51,15 +51,15 @@ fn stamp_of(date: Date) -> u64
 
 // Whether a value of n bytes may be a date, alone or with four or six digits behind it.
 fn is_long(n: usize) -> bool
-    ensures { result ≡ isLong n }
+    ensures { result ≡ is_long n }
 {
     (n == 8) | (n == 12) | (n == 14)
 }
 
 // Writes the date to out from index at on, and returns the index behind it.
 fn put_date(out: &mut [u8], at: usize, date: Date) -> usize
-    requires { (at + 8 ≤ length out.old) × (isDate date ≡ true) }
-    ensures { Wrote out.old at (dateText date) out.new result }
+    requires { (at + 8 ≤ length out.old) × (is_date date ≡ true) }
+    ensures { Wrote out.old at (date_text date) out.new result }
 {
     let mut m = stamp_of(date);
     let mut i = 0;
@@ -73,15 +73,15 @@ fn put_date(out: &mut [u8], at: usize, date: Date) -> usize
 
 // Whether the day n days behind a day of the years 1 to 9999 is one of them. Any n is compared with the days that are left on either side.
 fn stays(day: i64, n: i64) -> bool
-    requires { inYears day ≡ true }
-    ensures { result ≡ inYears (day +ℤ n) }
+    requires { in_years day ≡ true }
+    ensures { result ≡ in_years (day +ℤ n) }
 {
     (1 - day <= n) & (n <= 3652059 - day)
 }
 
 // The date at the front of a text of digits.
 fn front_date(s: &[u8]) -> Date
-    requires { (8 ≤ length s.now) × (all isDigit s.now ≡ true) }
+    requires { (8 ≤ length s.now) × (all is_digit s.now ≡ true) }
     ensures { result ≡ front s.now }
 {
     date_in(eight_digits(s))
@@ -89,7 +89,7 @@ fn front_date(s: &[u8]) -> Date
 
 // Whether a value is of the form: a date, alone or with four or six digits behind it.
 fn is_dated(s: &[u8]) -> bool
-    ensures { result ≡ isDated s.now }
+    ensures { result ≡ is_dated s.now }
 {
     if !is_long(s.len()) {
         return false;
@@ -102,15 +102,15 @@ fn is_dated(s: &[u8]) -> bool
 
 // The day of the date of a value.
 fn day_of(s: &[u8]) -> i64
-    requires { isDated s.now ≡ true }
-    ensures { result ≡ pos (dayNumber (front s.now)) }
+    requires { is_dated s.now ≡ true }
+    ensures { result ≡ pos (day_number (front s.now)) }
 {
     day_number(front_date(s))
 }
 
 // Whether a value is a date that stays in the years when it is moved by n days.
 fn is_moved(value: &[u8], n: i64) -> bool
-    ensures { result ≡ isMoved n value.now }
+    ensures { result ≡ is_moved n value.now }
 {
     if !is_dated(value) {
         return false;
@@ -120,7 +120,7 @@ fn is_moved(value: &[u8], n: i64) -> bool
 
 // The day n days behind the date of a value.
 fn moved_day(value: &[u8], n: i64) -> i64
-    requires { isMoved n value.now ≡ true }
+    requires { is_moved n value.now ≡ true }
     ensures { result ≡ target n (front value.now) }
 {
     day_of(value) + n
@@ -129,7 +129,7 @@ fn moved_day(value: &[u8], n: i64) -> i64
 // Writes the date of a day to out from index at on, and behind it what stands behind the date in value.
 fn put_day(out: &mut [u8], at: usize, day: i64, value: &[u8]) -> usize
     requires { DayRoom day value.now at out.old }
-    ensures { Wrote out.old at (dayText day value.now) out.new result }
+    ensures { Wrote out.old at (day_text day value.now) out.new result }
 {
     let behind = put_date(out, at, date_of(day));
     copy_at(out, behind, &value[8..])

@@ -1,6 +1,6 @@
 // Years: leap years, and the days of many years.
 ghost use Rattle.std.specs.Prelude.{◌≡◌, ◌<◌, min};
-ghost use Rattle.calendar.specs.Calendar.{leap, yearLength, sum};
+ghost use Rattle.calendar.specs.Calendar.{leap, year_length, sum};
 ghost use Rattle.calendar.specs.Inner.{YearsIn};
 
 // Whether the year is a leap year.
@@ -13,7 +13,7 @@ pub fn is_leap(year: u64) -> bool
 // The days of the years 1 to k.
 pub fn years_days(k: u64) -> u64
     requires { k < 10000 }
-    ensures { result ≡ sum yearLength k }
+    ensures { result ≡ sum year_length k }
 {
     k * 365 + k / 4 + k / 400 - k / 100
 }

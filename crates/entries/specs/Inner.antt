@@ -11,8 +11,8 @@ use Rattle.entries.specs.declared.returned.ReturnedReport.{ReturnedReport}
 use Rattle.refusal.specs.Limits.{TEXT_MAX}
 
 -- what a call returned, with a report of k bytes and m rows
-unfoldable pub withReport : Returned → ℕ → ℕ → ReturnedReport
-withReport r k m = record { number = r.number; line = r.line; text_len = r.text_len; report_len = k; rows = m }
+unfoldable pub with_report : Returned → ℕ → ℕ → ReturnedReport
+with_report r k m = record { number = r.number; line = r.line; text_len = r.text_len; report_len = k; rows = m }
 
 -- what was printed lies in a buffer of m bytes
 abbrev pub WrittenIn : ℕ → Printed → Type 0

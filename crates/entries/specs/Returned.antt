@@ -9,20 +9,20 @@ use Rattle.entries.specs.declared.returned.ReturnedReport.{ReturnedReport}
 unfoldable pub lent : ℕ → ℕ → Lent
 lent o s = record { output = o; scratch = s }
 
-unfoldable pub lentReport : ℕ → ℕ → ℕ → LentReport
-lentReport o ρ s = record { buffers = lent o s; report = ρ }
+unfoldable pub lent_report : ℕ → ℕ → ℕ → LentReport
+lent_report o ρ s = record { buffers = lent o s; report = ρ }
 
 -- what a call hands back, with the output o and the scratch s as it leaves them; the same of redact, with the report ρ
-unfoldable pub asOutcome : Returned → Text → Text → Outcome
-asOutcome r o s = record { number = r.number; line = r.line; textLength = r.text_len; output = o; scratch = s }
+unfoldable pub as_outcome : Returned → Text → Text → Outcome
+as_outcome r o s = record { number = r.number; line = r.line; text_length = r.text_len; output = o; scratch = s }
 
-unfoldable pub asRedactOutcome : ReturnedReport → Text → Text → Text → RedactOutcome
-asRedactOutcome r o ρ s =
+unfoldable pub as_redact_outcome : ReturnedReport → Text → Text → Text → RedactOutcome
+as_redact_outcome r o ρ s =
     record {
       number = r.number;
       line = r.line;
-      textLength = r.text_len;
-      reportLength = r.report_len;
+      text_length = r.text_len;
+      report_length = r.report_len;
       rows = r.rows;
       output = o;
       report = ρ;

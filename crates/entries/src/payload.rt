@@ -1,12 +1,12 @@
 // The entry payload: what is no message passes, is refused, or gets an action.
 ghost use Rattle.std.specs.Prelude.{◌≡◌, ◌≤◌, length};
 ghost use Rattle.text.specs.Text.{Wrote};
-ghost use Rattle.er7_redact.specs.Action.{asAction, ActionHeld};
+ghost use Rattle.er7_redact.specs.Action.{as_action, ActionHeld};
 ghost use Rattle.er7_redact.specs.Action as Actions;
-ghost use Rattle.policy.specs.Line.{asUnrecognised, UnrecognisedHeld};
-ghost use Rattle.run_model.specs.Entries.{outcome, withoutFault, payloadFault, writtenOr, payloadOutcome};
+ghost use Rattle.policy.specs.Line.{as_unrecognised, UnrecognisedHeld};
+ghost use Rattle.run_model.specs.Entries.{outcome, without_fault, payload_fault, written_or, payload_outcome};
 ghost use Rattle.run_model.specs.Entries as Spec;
-ghost use Rattle.entries.specs.Returned.{lent, asOutcome};
+ghost use Rattle.entries.specs.Returned.{lent, as_outcome};
 ghost use Rattle.entries.specs.Inner.{NeverLong, UnrecognisedShort};
 ghost use Rattle.refusal.specs.Limits.{TEXT_MAX};
 
@@ -23,8 +23,8 @@ use text::bytes::copy_at;
 // Writes what the action a, whose replacement stands in policy, writes in the payload's place, or the payload itself where it writes
 // nothing, to the front of output, and returns its length.
 fn put_applied(a: Action, policy: &[u8], key: u64, payload: &[u8], output: &mut [u8]) -> usize
-    requires { ActionHeld policy.now a × NeverLong key (asAction policy.now a) × (length payload.now ≤ TEXT_MAX) × (TEXT_MAX ≤ length output.old) }
-    ensures { Wrote output.old 0 (writtenOr payload.now (Actions.apply key (asAction policy.now a) payload.now)) output.new result }
+    requires { ActionHeld policy.now a × NeverLong key (as_action policy.now a) × (length payload.now ≤ TEXT_MAX) × (TEXT_MAX ≤ length output.old) }
+    ensures { Wrote output.old 0 (written_or payload.now (Actions.apply key (as_action policy.now a) payload.now)) output.new result }
 {
     match action::applied_len(a, payload) {
         Applied::Written(_) => action::apply(a, policy, key, payload, output, 0),
@@ -41,8 +41,8 @@ fn answer_payload(
     output: &mut [u8],
     scratch: &mut [u8],
 ) -> Returned
-    requires { UnrecognisedHeld policy.now u × UnrecognisedShort key (asUnrecognised policy.now u) × (length payload.now ≤ TEXT_MAX) × (TEXT_MAX ≤ length output.old) }
-    ensures { asOutcome result output.new scratch.new ≡ outcome (lent (length output.old) (length scratch.old)) (Spec.unrecognised key (asUnrecognised policy.now u) payload.now) }
+    requires { UnrecognisedHeld policy.now u × UnrecognisedShort key (as_unrecognised policy.now u) × (length payload.now ≤ TEXT_MAX) × (TEXT_MAX ≤ length output.old) }
+    ensures { as_outcome result output.new scratch.new ≡ outcome (lent (length output.old) (length scratch.old)) (Spec.unrecognised key (as_unrecognised policy.now u) payload.now) }
 {
     match u {
         Unrecognised::Pass => {
@@ -66,8 +66,8 @@ fn judge(
     output: &mut [u8],
     scratch: &mut [u8],
 ) -> Returned
-    requires { UnrecognisedHeld policy.now u × UnrecognisedShort key (asUnrecognised policy.now u) × (TEXT_MAX ≤ length output.old) }
-    ensures { asOutcome result output.new scratch.new ≡ outcome (lent (length output.old) (length scratch.old)) (withoutFault (payloadFault payload.now) (Spec.unrecognised key (asUnrecognised policy.now u) payload.now)) }
+    requires { UnrecognisedHeld policy.now u × UnrecognisedShort key (as_unrecognised policy.now u) × (TEXT_MAX ≤ length output.old) }
+    ensures { as_outcome result output.new scratch.new ≡ outcome (lent (length output.old) (length scratch.old)) (without_fault (payload_fault payload.now) (Spec.unrecognised key (as_unrecognised policy.now u) payload.now)) }
 {
     if INPUT_MAX < payload.len() {
         return refuse(Refusal::TooLong, 0, output, scratch);
@@ -86,7 +86,7 @@ pub fn payload(
     output: &mut [u8],
     scratch: &mut [u8],
 ) -> Returned
-    ensures { asOutcome result output.new scratch.new ≡ payloadOutcome (lent (length output.old) (length scratch.old)) payload.now policy.now key }
+    ensures { as_outcome result output.new scratch.new ≡ payload_outcome (lent (length output.old) (length scratch.old)) payload.now policy.now key }
 {
     if is_short(output.len(), scratch.len()) {
         return refuse(Refusal::ShortBuffer, 0, output, scratch);

@@ -3,9 +3,9 @@ ghost use Rattle.std.specs.Prelude.{◌≡◌, length};
 ghost use Rattle.text.specs.Text.{Text};
 ghost use Rattle.policy_model.specs.Policy.{PolicyRead};
 ghost use Rattle.policy_print.specs.Print.{PrintedIs};
-ghost use Rattle.run_model.specs.Entries.{outcome, withPolicy, printOutcome, appendOutcome, builtinOutcome};
+ghost use Rattle.run_model.specs.Entries.{outcome, with_policy, print_outcome, append_outcome, builtin_outcome};
 ghost use Rattle.run_model.specs.Entries as Spec;
-ghost use Rattle.entries.specs.Returned.{lent, asOutcome};
+ghost use Rattle.entries.specs.Returned.{lent, as_outcome};
 ghost use Rattle.entries.specs.Inner.{WrittenIn};
 
 use super::returned::{Returned, finish, is_short, refuse};
@@ -16,7 +16,7 @@ use refusal::Refusal;
 // Hands back the text that was printed to output, or the refusal.
 fn answer(printed: Printed, output: &mut [u8], scratch: &mut [u8]) -> Returned
     requires { WrittenIn (length output.old) printed }
-    ensures { (o : PolicyRead) (d : Text) → PrintedIs o d output.old printed → asOutcome result output.new scratch.new ≡ outcome (lent (length output.old) (length scratch.old)) (withPolicy o Spec.printedPolicy) }
+    ensures { (o : PolicyRead) (d : Text) → PrintedIs o d output.old printed → as_outcome result output.new scratch.new ≡ outcome (lent (length output.old) (length scratch.old)) (with_policy o Spec.printed_policy) }
 {
     match printed {
         Printed::Written(n) => finish(n, output, scratch),
@@ -26,7 +26,7 @@ fn answer(printed: Printed, output: &mut [u8], scratch: &mut [u8]) -> Returned
 
 // Reads a policy, and prints it to output.
 pub fn print(policy: &[u8], output: &mut [u8], scratch: &mut [u8]) -> Returned
-    ensures { asOutcome result output.new scratch.new ≡ printOutcome (lent (length output.old) (length scratch.old)) policy.now }
+    ensures { as_outcome result output.new scratch.new ≡ print_outcome (lent (length output.old) (length scratch.old)) policy.now }
 {
     if is_short(output.len(), scratch.len()) {
         return refuse(Refusal::ShortBuffer, 0, output, scratch);
@@ -37,7 +37,7 @@ pub fn print(policy: &[u8], output: &mut [u8], scratch: &mut [u8]) -> Returned
 
 // Reads two policies, and prints them merged to output.
 pub fn append(first: &[u8], second: &[u8], output: &mut [u8], scratch: &mut [u8]) -> Returned
-    ensures { asOutcome result output.new scratch.new ≡ appendOutcome (lent (length output.old) (length scratch.old)) first.now second.now }
+    ensures { as_outcome result output.new scratch.new ≡ append_outcome (lent (length output.old) (length scratch.old)) first.now second.now }
 {
     if is_short(output.len(), scratch.len()) {
         return refuse(Refusal::ShortBuffer, 0, output, scratch);
@@ -48,7 +48,7 @@ pub fn append(first: &[u8], second: &[u8], output: &mut [u8], scratch: &mut [u8]
 
 // Prints a built-in policy, named by its number, to output.
 pub fn builtin(number: u64, output: &mut [u8], scratch: &mut [u8]) -> Returned
-    ensures { asOutcome result output.new scratch.new ≡ builtinOutcome (lent (length output.old) (length scratch.old)) number }
+    ensures { as_outcome result output.new scratch.new ≡ builtin_outcome (lent (length output.old) (length scratch.old)) number }
 {
     if is_short(output.len(), scratch.len()) {
         return refuse(Refusal::ShortBuffer, 0, output, scratch);

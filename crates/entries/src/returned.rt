@@ -1,10 +1,10 @@
 // What every entry hands back: its buffers zeroed for a refusal, or a text and a report with zeros behind them.
 ghost use Rattle.std.specs.Prelude.{◌≡◌, ◌≤◌, length, take};
 ghost use Rattle.text.specs.Text.{Text, zeroed};
-ghost use Rattle.run_model.specs.Redact.{printRows};
-ghost use Rattle.run_model.specs.Entries.{Redaction, outcome, outcomeWithReport, done, refused, isShort};
-ghost use Rattle.entries.specs.Returned.{lent, lentReport, asOutcome, asRedactOutcome};
-ghost use Rattle.entries.specs.Inner.{withReport};
+ghost use Rattle.run_model.specs.Redact.{print_rows};
+ghost use Rattle.run_model.specs.Entries.{Redaction, outcome, outcome_with_report, done, refused, is_short};
+ghost use Rattle.entries.specs.Returned.{lent, lent_report, as_outcome, as_redact_outcome};
+ghost use Rattle.entries.specs.Inner.{with_report};
 
 use refusal::limits::TEXT_MAX;
 use refusal::{Refusal, number};
@@ -30,7 +30,7 @@ pub struct ReturnedReport {
 
 // Whether an output or a scratch of these lengths is too short.
 pub fn is_short(output: usize, scratch: usize) -> bool
-    ensures { result ≡ isShort (lent output scratch) }
+    ensures { result ≡ is_short (lent output scratch) }
 {
     (output < TEXT_MAX) | (scratch < TEXT_MAX)
 }
@@ -46,7 +46,7 @@ fn zero_behind(output: &mut [u8], n: usize, scratch: &mut [u8])
 
 // Zeros the buffers, and hands back the refusal's number and line.
 pub fn refuse(refusal: Refusal, line: usize, output: &mut [u8], scratch: &mut [u8]) -> Returned
-    ensures { asOutcome result output.new scratch.new ≡ outcome (lent (length output.old) (length scratch.old)) (refused refusal line) }
+    ensures { as_outcome result output.new scratch.new ≡ outcome (lent (length output.old) (length scratch.old)) (refused refusal line) }
 {
     zero_behind(output, 0, scratch);
     Returned {
@@ -59,7 +59,7 @@ pub fn refuse(refusal: Refusal, line: usize, output: &mut [u8], scratch: &mut [u
 // Zeros what stands behind the text, and the scratch, and hands back the length.
 pub fn finish(text_len: usize, output: &mut [u8], scratch: &mut [u8]) -> Returned
     requires { text_len ≤ length output.old }
-    ensures { (t : Text) → take text_len output.old ≡ t → asOutcome result output.new scratch.new ≡ outcome (lent (length output.old) (length scratch.old)) (done t) }
+    ensures { (t : Text) → take text_len output.old ≡ t → as_outcome result output.new scratch.new ≡ outcome (lent (length output.old) (length scratch.old)) (done t) }
 {
     zero_behind(output, text_len, scratch);
     Returned {
@@ -71,7 +71,7 @@ pub fn finish(text_len: usize, output: &mut [u8], scratch: &mut [u8]) -> Returne
 
 // What redact hands back, with a report of so many bytes and rows.
 fn with_report(r: Returned, report_len: usize, rows: usize) -> ReturnedReport
-    ensures { result ≡ withReport r report_len rows }
+    ensures { result ≡ with_report r report_len rows }
 {
     ReturnedReport {
         number: r.number,
@@ -90,7 +90,7 @@ pub fn refuse_report(
     report: &mut [u8],
     scratch: &mut [u8],
 ) -> ReturnedReport
-    ensures { asRedactOutcome result output.new report.new scratch.new ≡ outcomeWithReport (lentReport (length output.old) (length report.old) (length scratch.old)) (refused refusal line) }
+    ensures { as_redact_outcome result output.new report.new scratch.new ≡ outcome_with_report (lent_report (length output.old) (length report.old) (length scratch.old)) (refused refusal line) }
 {
     zero_from(report, 0);
     with_report(refuse(refusal, line, output, scratch), 0, 0)
@@ -105,7 +105,7 @@ pub fn finish_report(
     scratch: &mut [u8],
 ) -> ReturnedReport
     requires { (text_len ≤ length output.old) × (report_len ≤ length report.old) }
-    ensures { (d : Redaction) → take text_len output.old ≡ d.text → take report_len report.old ≡ printRows d.rows → rows ≡ length d.rows → asRedactOutcome result output.new report.new scratch.new ≡ outcomeWithReport (lentReport (length output.old) (length report.old) (length scratch.old)) (done d) }
+    ensures { (d : Redaction) → take text_len output.old ≡ d.text → take report_len report.old ≡ print_rows d.rows → rows ≡ length d.rows → as_redact_outcome result output.new report.new scratch.new ≡ outcome_with_report (lent_report (length output.old) (length report.old) (length scratch.old)) (done d) }
 {
     zero_from(report, report_len);
     with_report(finish(text_len, output, scratch), report_len, rows)

@@ -1,8 +1,8 @@
 -- path.rs: reading and printing paths. Assumes nothing: these are definitions.
 use Rattle.std.specs.Prelude.{Bool, cond, ◌||◌, [], ◌∷◌, ◌++◌, ℕ, ◌+◌, ◌≤◌, eqb, length}
 use Rattle.std.proofs.Math.Option.{Option, none, some}
-use Rattle.text.specs.Text.{Text, isAlphanumeric, is_empty, run, rest, part}
-use Rattle.text.specs.Number.{decimal, Taken, taken, refused, takeNumber}
+use Rattle.text.specs.Text.{Text, is_alphanumeric, is_empty, run, rest, part}
+use Rattle.text.specs.Number.{decimal, Taken, taken, refused, take_number}
 use Rattle.er7.specs.declared.path.Path.{Path as HeldPath}
 use Rattle.er7.specs.declared.path.ParsedPath.{ParsedPath}
 use Rattle.er7.specs.declared.path.ParsedPath.TheVariants.{Parsed, BadPath}
@@ -19,27 +19,27 @@ pub record Path : Type 0 where
 -- ---- reading
 
 -- "Indices are 1 to 18446744073709551615, leading zeros allowed"
-unfoldable pub notZero : Taken → Taken
-notZero (taken n s) = cond (eqb n 0) refused (taken n s)
-notZero refused = refused
+unfoldable pub not_zero : Taken → Taken
+not_zero (taken n s) = cond (eqb n 0) refused (taken n s)
+not_zero refused = refused
 
-unfoldable pub takeIndex : Text → Taken
-takeIndex s = notZero (takeNumber s)
+unfoldable pub take_index : Text → Taken
+take_index s = not_zero (take_number s)
 
 -- "an optional `[n]`": 0 if it is not there
-unfoldable pub closeBracket : Taken → Taken
-closeBracket (taken n []) = refused
-closeBracket (taken n (x ∷ s)) = cond (eqb x 0x5d) (taken n s) refused
-closeBracket refused = refused
+unfoldable pub close_bracket : Taken → Taken
+close_bracket (taken n []) = refused
+close_bracket (taken n (x ∷ s)) = cond (eqb x 0x5d) (taken n s) refused
+close_bracket refused = refused
 
-unfoldable pub takeOccurrence : Text → Taken
-takeOccurrence [] = taken 0 []
-takeOccurrence (x ∷ s) = cond (eqb x 0x5b) (closeBracket (takeIndex s)) (taken 0 (x ∷ s))
+unfoldable pub take_occurrence : Text → Taken
+take_occurrence [] = taken 0 []
+take_occurrence (x ∷ s) = cond (eqb x 0x5b) (close_bracket (take_index s)) (taken 0 (x ∷ s))
 
 -- "`.component`, `.subcomponent`": 0 if it is not there
-unfoldable pub takeStep : Text → Taken
-takeStep [] = taken 0 []
-takeStep (x ∷ s) = cond (eqb x 0x2e) (takeIndex s) (taken 0 (x ∷ s))
+unfoldable pub take_step : Text → Taken
+take_step [] = taken 0 []
+take_step (x ∷ s) = cond (eqb x 0x2e) (take_index s) (taken 0 (x ∷ s))
 
 -- go on with the number that was taken and what is left
 unfoldable pub then : Taken → (ℕ → Text → Option Path) → Option Path
@@ -52,52 +52,52 @@ complete p [] = some p
 complete p (x ∷ s) = none
 
 -- the path from its subcomponent on, its component on, .., with what stands before
-unfoldable pub readSubcomponent : Text → ℕ → ℕ → ℕ → ℕ → Text → Option Path
-readSubcomponent w o f r c s =
-    then (takeStep s) λ u t.
+unfoldable pub read_subcomponent : Text → ℕ → ℕ → ℕ → ℕ → Text → Option Path
+read_subcomponent w o f r c s =
+    then (take_step s) λ u t.
     complete (record { segment = w; occurrence = o; field = f; repetition = r; component = c; subcomponent = u }) t
 
-unfoldable pub readComponent : Text → ℕ → ℕ → ℕ → Text → Option Path
-readComponent w o f r s = then (takeStep s) (readSubcomponent w o f r)
+unfoldable pub read_component : Text → ℕ → ℕ → ℕ → Text → Option Path
+read_component w o f r s = then (take_step s) (read_subcomponent w o f r)
 
-unfoldable pub readRepetition : Text → ℕ → ℕ → Text → Option Path
-readRepetition w o f s = then (takeOccurrence s) (readComponent w o f)
+unfoldable pub read_repetition : Text → ℕ → ℕ → Text → Option Path
+read_repetition w o f s = then (take_occurrence s) (read_component w o f)
 
-unfoldable pub readField : Text → ℕ → Text → Option Path
-readField w o s = then (takeIndex s) (readRepetition w o)
+unfoldable pub read_field : Text → ℕ → Text → Option Path
+read_field w o s = then (take_index s) (read_repetition w o)
 
 -- "then optionally `-` or `.` with a field"
-unfoldable pub isJoin : ℕ → Bool
-isJoin x = eqb x 0x2d || eqb x 0x2e
+unfoldable pub is_join : ℕ → Bool
+is_join x = eqb x 0x2d || eqb x 0x2e
 
-unfoldable pub readSegment : Text → ℕ → Text → Option Path
-readSegment w o [] = some (record { segment = w; occurrence = o; field = 0; repetition = 0; component = 0; subcomponent = 0 })
-readSegment w o (x ∷ s) = cond (isJoin x) (readField w o s) none
+unfoldable pub read_segment : Text → ℕ → Text → Option Path
+read_segment w o [] = some (record { segment = w; occurrence = o; field = 0; repetition = 0; component = 0; subcomponent = 0 })
+read_segment w o (x ∷ s) = cond (is_join x) (read_field w o s) none
 
 -- "A path is a segment name of ASCII letters and digits, an optional `[n]`, then .."
-unfoldable pub readPath : Text → Option Path
-readPath s =
-    cond (is_empty (run isAlphanumeric s)) none
-    (then (takeOccurrence (rest isAlphanumeric s)) (readSegment (run isAlphanumeric s)))
+unfoldable pub read_path : Text → Option Path
+read_path s =
+    cond (is_empty (run is_alphanumeric s)) none
+    (then (take_occurrence (rest is_alphanumeric s)) (read_segment (run is_alphanumeric s)))
 
 -- ---- "The printed form uses `-`"; an absent index is left out
 
-unfoldable pub inBrackets : ℕ → Text
-inBrackets n = cond (eqb n 0) [] (0x5b ∷ (decimal n ++ (0x5d ∷ [])))
+unfoldable pub in_brackets : ℕ → Text
+in_brackets n = cond (eqb n 0) [] (0x5b ∷ (decimal n ++ (0x5d ∷ [])))
 
 unfoldable pub behind : ℕ → ℕ → Text
 behind c n = cond (eqb n 0) [] (c ∷ decimal n)
 
-unfoldable pub printPath : Path → Text
-printPath p =
-    p.segment ++ (inBrackets p.occurrence ++ (behind 0x2d p.field ++ (inBrackets p.repetition
+unfoldable pub print_path : Path → Text
+print_path p =
+    p.segment ++ (in_brackets p.occurrence ++ (behind 0x2d p.field ++ (in_brackets p.repetition
     ++ (behind 0x2e p.component ++ behind 0x2e p.subcomponent))))
 
 -- ---- the struct: a path whose segment's name is a part of a text
 
 -- the path that p stands for in the text t
-unfoldable pub asPath : Text → HeldPath → Path
-asPath t p = record {
+unfoldable pub as_path : Text → HeldPath → Path
+as_path t p = record {
   segment = part t p.segment p.segment_len;
   occurrence = p.segment_occurrence;
   field = p.field;
@@ -111,8 +111,8 @@ pub record PathHeld (t : Text) (p : HeldPath) : Type 0 where
   pub inside : p.segment + p.segment_len ≤ length t
 
 -- the struct for the path p, with a name of n bytes at index i of a text; and for what was read
-unfoldable pub heldAs : ℕ → ℕ → Path → HeldPath
-heldAs i n p = record {
+unfoldable pub held_as : ℕ → ℕ → Path → HeldPath
+held_as i n p = record {
   segment = i;
   segment_len = n;
   segment_occurrence = p.occurrence;
@@ -122,6 +122,6 @@ heldAs i n p = record {
   subcomponent = p.subcomponent;
 }
 
-unfoldable pub heldPath : ℕ → ℕ → Option Path → ParsedPath
-heldPath i n none = BadPath
-heldPath i n (some p) = Parsed (heldAs i n p)
+unfoldable pub held_path : ℕ → ℕ → Option Path → ParsedPath
+held_path i n none = BadPath
+held_path i n (some p) = Parsed (held_as i n p)

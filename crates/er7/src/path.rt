@@ -1,8 +1,8 @@
 // Paths: the short notation for a place in a message, such as `PID-5.1` or `OBX[2]-5.1.2`.
 ghost use Rattle.std.specs.Prelude.{◌≡◌, ℕ, ◌+◌, ◌≤◌, length};
-ghost use Rattle.text.specs.Text.{Wrote, run, isAlphanumeric};
+ghost use Rattle.text.specs.Text.{Wrote, run, is_alphanumeric};
 ghost use Rattle.text.specs.Number.{TakenAt, taken};
-ghost use Rattle.er7.specs.Path.{takeIndex, closeBracket, takeOccurrence, takeStep, inBrackets, behind, printPath, readPath, asPath, PathHeld, heldPath, readSubcomponent, readComponent, readRepetition, readField, readSegment, isJoin};
+ghost use Rattle.er7.specs.Path.{take_index, close_bracket, take_occurrence, take_step, in_brackets, behind, print_path, read_path, as_path, PathHeld, held_path, read_subcomponent, read_component, read_repetition, read_field, read_segment, is_join};
 ghost use Rattle.er7.specs.Inner.{ParsedAt};
 
 use text::bytes::{Class, byte_at, copy_at, run_end};
@@ -29,7 +29,7 @@ pub enum ParsedPath {
 // A number other than 0.
 fn take_index(s: &[u8], i: usize) -> Number
     requires { i ≤ length s.now }
-    ensures { TakenAt takeIndex s.now i result }
+    ensures { TakenAt take_index s.now i result }
 {
     match number_at(s, i) {
         Number::At(index, r) => {
@@ -45,7 +45,7 @@ fn take_index(s: &[u8], i: usize) -> Number
 // `]` behind a number n, from index r on.
 fn close_bracket(s: &[u8], n: u64, r: usize) -> Number
     requires { r ≤ length s.now }
-    ensures { TakenAt (λ t. closeBracket (taken n t)) s.now r result }
+    ensures { TakenAt (λ t. close_bracket (taken n t)) s.now r result }
 {
     if r == s.len() {
         return Number::Refused;
@@ -59,7 +59,7 @@ fn close_bracket(s: &[u8], n: u64, r: usize) -> Number
 // `[n]`, or nothing.
 fn take_occurrence(s: &[u8], i: usize) -> Number
     requires { i ≤ length s.now }
-    ensures { TakenAt takeOccurrence s.now i result }
+    ensures { TakenAt take_occurrence s.now i result }
 {
     if i == s.len() {
         return Number::At(0, i);
@@ -76,7 +76,7 @@ fn take_occurrence(s: &[u8], i: usize) -> Number
 // `.n`, or nothing.
 fn take_step(s: &[u8], i: usize) -> Number
     requires { i ≤ length s.now }
-    ensures { TakenAt takeStep s.now i result }
+    ensures { TakenAt take_step s.now i result }
 {
     if i == s.len() {
         return Number::At(0, i);
@@ -90,7 +90,7 @@ fn take_step(s: &[u8], i: usize) -> Number
 // The path from its subcomponent on; the last part, behind which nothing is left.
 fn read_subcomponent(s: &[u8], i: usize, p: Path) -> ParsedPath
     requires { i ≤ length s.now }
-    ensures { ParsedAt (λ w. readSubcomponent w p.segment_occurrence p.field p.repetition p.component) s.now i p.segment p.segment_len result }
+    ensures { ParsedAt (λ w. read_subcomponent w p.segment_occurrence p.field p.repetition p.component) s.now i p.segment p.segment_len result }
 {
     match take_step(s, i) {
         Number::At(n, r) => {
@@ -108,7 +108,7 @@ fn read_subcomponent(s: &[u8], i: usize, p: Path) -> ParsedPath
 // The path from its component on.
 fn read_component(s: &[u8], i: usize, p: Path) -> ParsedPath
     requires { i ≤ length s.now }
-    ensures { ParsedAt (λ w. readComponent w p.segment_occurrence p.field p.repetition) s.now i p.segment p.segment_len result }
+    ensures { ParsedAt (λ w. read_component w p.segment_occurrence p.field p.repetition) s.now i p.segment p.segment_len result }
 {
     match take_step(s, i) {
         Number::At(n, r) => {
@@ -123,7 +123,7 @@ fn read_component(s: &[u8], i: usize, p: Path) -> ParsedPath
 // The path from its field's repetition on.
 fn read_repetition(s: &[u8], i: usize, p: Path) -> ParsedPath
     requires { i ≤ length s.now }
-    ensures { ParsedAt (λ w. readRepetition w p.segment_occurrence p.field) s.now i p.segment p.segment_len result }
+    ensures { ParsedAt (λ w. read_repetition w p.segment_occurrence p.field) s.now i p.segment p.segment_len result }
 {
     match take_occurrence(s, i) {
         Number::At(n, r) => {
@@ -138,7 +138,7 @@ fn read_repetition(s: &[u8], i: usize, p: Path) -> ParsedPath
 // The path from its field on.
 fn read_field(s: &[u8], i: usize, p: Path) -> ParsedPath
     requires { i ≤ length s.now }
-    ensures { ParsedAt (λ w. readField w p.segment_occurrence) s.now i p.segment p.segment_len result }
+    ensures { ParsedAt (λ w. read_field w p.segment_occurrence) s.now i p.segment p.segment_len result }
 {
     match take_index(s, i) {
         Number::At(n, r) => {
@@ -151,7 +151,7 @@ fn read_field(s: &[u8], i: usize, p: Path) -> ParsedPath
 }
 
 fn is_join(b: u8) -> bool
-    ensures { result ≡ isJoin b }
+    ensures { result ≡ is_join b }
 {
     (b == b'-') | (b == b'.')
 }
@@ -159,7 +159,7 @@ fn is_join(b: u8) -> bool
 // The path behind its segment's name, n bytes at index base, and its occurrence.
 fn read_segment(s: &[u8], i: usize, base: usize, n: usize, occurrence: u64) -> ParsedPath
     requires { i ≤ length s.now }
-    ensures { ParsedAt (λ w. readSegment w occurrence) s.now i base n result }
+    ensures { ParsedAt (λ w. read_segment w occurrence) s.now i base n result }
 {
     let p = Path {
         segment: base,
@@ -181,7 +181,7 @@ fn read_segment(s: &[u8], i: usize, base: usize, n: usize, occurrence: u64) -> P
 
 // Reads the word s, which stands in a text from index base on, as a path.
 pub fn parse(s: &[u8], base: usize) -> ParsedPath
-    ensures { result ≡ heldPath base (length (run isAlphanumeric s.now)) (readPath s.now) }
+    ensures { result ≡ held_path base (length (run is_alphanumeric s.now)) (read_path s.now) }
 {
     let n = run_end(s, 0, Class::Alphanumeric);
     if n == 0 {
@@ -195,8 +195,8 @@ pub fn parse(s: &[u8], base: usize) -> ParsedPath
 
 // Writes `[n]`, or nothing if n is 0, to out from index at on, and returns the index behind it.
 fn put_brackets(out: &mut [u8], at: usize, n: u64) -> usize
-    requires { at + length (inBrackets n) ≤ length out.old }
-    ensures { Wrote out.old at (inBrackets n) out.new result }
+    requires { at + length (in_brackets n) ≤ length out.old }
+    ensures { Wrote out.old at (in_brackets n) out.new result }
 {
     if n == 0 {
         return at;
@@ -220,8 +220,8 @@ fn put_behind(out: &mut [u8], at: usize, c: u8, n: u64) -> usize
 
 // Writes the path p, whose name stands in text, to out from index at on, and returns the index behind it.
 pub fn print(p: Path, text: &[u8], out: &mut [u8], at: usize) -> usize
-    requires { PathHeld text.now p × (at + length (printPath (asPath text.now p)) ≤ length out.old) }
-    ensures { Wrote out.old at (printPath (asPath text.now p)) out.new result }
+    requires { PathHeld text.now p × (at + length (print_path (as_path text.now p)) ≤ length out.old) }
+    ensures { Wrote out.old at (print_path (as_path text.now p)) out.new result }
 {
     let start = p.segment;
     let end = start + p.segment_len;
@@ -235,7 +235,7 @@ pub fn print(p: Path, text: &[u8], out: &mut [u8], at: usize) -> usize
 
 // The length of `[n]`, or of nothing if n is 0.
 fn brackets_len(n: u64) -> usize
-    ensures { (result ≡ length (inBrackets n)) × (result ≤ 22) }
+    ensures { (result ≡ length (in_brackets n)) × (result ≤ 22) }
 {
     if n == 0 {
         return 0;
@@ -256,7 +256,7 @@ fn behind_len(n: u64) -> usize
 // The length of what print writes.
 pub fn printed_len(p: Path, text: &[u8]) -> usize
     requires { PathHeld text.now p }
-    ensures { result ≡ length (printPath (asPath text.now p)) }
+    ensures { result ≡ length (print_path (as_path text.now p)) }
 {
     let occurrences = brackets_len(p.segment_occurrence) + brackets_len(p.repetition);
     let steps = behind_len(p.field) + behind_len(p.component) + behind_len(p.subcomponent);

@@ -9,71 +9,71 @@ use borrow.Author.Tests.{lt-leb, le-leb, eq-eqb, ne_eqb}
 use lib.Dec.{eqb}
 use lib.ListN.{length, take, get_or}
 use Rattle.text.specs.Text.{Text, same, all}
-use Rattle.text.proofs.Words.{same-eq}
+use Rattle.text.proofs.Words.{same_eq}
 use Rattle.text.proofs.Laws.{by_cond}
 use Rattle.er7.specs.declared.separators.Separators.{Separators}
-use Rattle.message_model.specs.Message.{isHeaderName, endsInCR, isNameByte, isName, isNamed, count}
+use Rattle.message_model.specs.Message.{is_header_name, ends_in_cr, is_name_byte, is_name, is_named, count}
 use Rattle.er7_table.specs.Table.{cell, list_of, name_at}
-use Rattle.er7_table.proofs.Laws.{list-append, list_length}
+use Rattle.er7_table.proofs.Laws.{list_append, list_length}
 use Rattle.er7_message.specs.Inner.{names, Numbered}
-use Rattle.er7_message.proofs.Headers.{and-end}
+use Rattle.er7_message.proofs.Headers.{and_end}
 
 -- ---- the last CR
 
-pub cr-empty : (t : Text) → length t ≡ 0 → false ≡ endsInCR t
-unfolding endsInCR
-cr-empty [] h = refl
-cr-empty (x ∷ t) h = absurd (omega arith)
+pub cr_empty : (t : Text) → length t ≡ 0 → false ≡ ends_in_cr t
+unfolding ends_in_cr
+cr_empty [] h = refl
+cr_empty (x ∷ t) h = absurd (omega arith)
 
 -- ---- names
 
-three-bytes : (n : Text) → length n ≡ 3 → n ≡ get_or n 0 0 ∷ get_or n 1 0 ∷ get_or n 2 0 ∷ []
-three-bytes [] h = absurd (omega arith)
-three-bytes (a ∷ []) h = absurd (omega arith)
-three-bytes (a ∷ b ∷ []) h = absurd (omega arith)
-three-bytes (a ∷ b ∷ c ∷ []) h = refl
-three-bytes (a ∷ b ∷ c ∷ d ∷ n) h = absurd (omega arith)
+three_bytes : (n : Text) → length n ≡ 3 → n ≡ get_or n 0 0 ∷ get_or n 1 0 ∷ get_or n 2 0 ∷ []
+three_bytes [] h = absurd (omega arith)
+three_bytes (a ∷ []) h = absurd (omega arith)
+three_bytes (a ∷ b ∷ []) h = absurd (omega arith)
+three_bytes (a ∷ b ∷ c ∷ []) h = refl
+three_bytes (a ∷ b ∷ c ∷ d ∷ n) h = absurd (omega arith)
 
 all_three : (p : ℕ → Bool) (a b c : ℕ) → all p (a ∷ b ∷ c ∷ []) ≡ p a && (p b && p c)
 unfolding all
-all_three p a b c = rw (and-end (p c))
+all_three p a b c = rw (and_end (p c))
 
-pub name-is : (n : Text) → length n ≡ 3 → {p q r x : Bool} → p ≡ isNameByte (get_or n 0 0) → q ≡ isNameByte (get_or n 1 0) → r ≡ isNameByte (get_or n 2 0)
-    → x ≡ isHeaderName (get_or n 0 0 ∷ get_or n 1 0 ∷ get_or n 2 0 ∷ []) → p && (q && r) && not x ≡ isName n
-unfolding isName
-name-is n h e1 e2 e3 e4 =
+pub name_is : (n : Text) → length n ≡ 3 → {p q r x : Bool} → p ≡ is_name_byte (get_or n 0 0) → q ≡ is_name_byte (get_or n 1 0) → r ≡ is_name_byte (get_or n 2 0)
+    → x ≡ is_header_name (get_or n 0 0 ∷ get_or n 1 0 ∷ get_or n 2 0 ∷ []) → p && (q && r) && not x ≡ is_name n
+unfolding is_name
+name_is n h e1 e2 e3 e4 =
     rw (e1, e2, e3, e4)
-    (sym (ap (λ (m : Text). all isNameByte m && not (isHeaderName m)) (three-bytes n h)
-    ∙ rw (all_three isNameByte (get_or n 0 0) (get_or n 1 0) (get_or n 2 0))))
+    (sym (ap (λ (m : Text). all is_name_byte m && not (is_header_name m)) (three_bytes n h)
+    ∙ rw (all_three is_name_byte (get_or n 0 0) (get_or n 1 0) (get_or n 2 0))))
 
 module _ (s : Separators) (l : Text) where
-  pub named-short : length l < 3 → false ≡ isNamed s l
-  unfolding isNamed
-  named-short h = rw (lt-leb 3 (length l) h)
+  pub named_short : length l < 3 → false ≡ is_named s l
+  unfolding is_named
+  named_short h = rw (lt-leb 3 (length l) h)
 
-  module _ (h : 3 ≤ length l) {b : Bool} (p : b ≡ isName (take 3 l)) where
-    pub named-not : b ≡ false → false ≡ isNamed s l
-    unfolding isNamed
-    named-not e = rw (le-leb 3 (length l) h, sym p ∙ e)
+  module _ (h : 3 ≤ length l) {b : Bool} (p : b ≡ is_name (take 3 l)) where
+    pub named_not : b ≡ false → false ≡ is_named s l
+    unfolding is_named
+    named_not e = rw (le-leb 3 (length l) h, sym p ∙ e)
 
-    pub named-bare : b ≡ true → length l ≡ 3 → true ≡ isNamed s l
-    unfolding isNamed
-    named-bare e z = rw (le-leb 3 (length l) h, sym p ∙ e, eq-eqb (length l) 3 z)
+    pub named_bare : b ≡ true → length l ≡ 3 → true ≡ is_named s l
+    unfolding is_named
+    named_bare e z = rw (le-leb 3 (length l) h, sym p ∙ e, eq-eqb (length l) 3 z)
 
-    pub named-field : b ≡ true → (length l ≡ 3 → ⊥) → eqb (get_or l 3 0) s.field ≡ isNamed s l
-    unfolding isNamed
-    named-field e z = rw (le-leb 3 (length l) h, sym p ∙ e, ne_eqb (length l) 3 z)
+    pub named_field : b ≡ true → (length l ≡ 3 → ⊥) → eqb (get_or l 3 0) s.field ≡ is_named s l
+    unfolding is_named
+    named_field e z = rw (le-leb 3 (length l) h, sym p ∙ e, ne_eqb (length l) 3 z)
 
 -- ---- occurrences
 
-pub has-name : (segs : List ℕ) (k a b c : ℕ) → eqb (cell segs k 2) a && (eqb (cell segs k 3) b && eqb (cell segs k 4) c) ≡ same (name_at segs k) (a ∷ b ∷ c ∷ [])
+pub has_name : (segs : List ℕ) (k a b c : ℕ) → eqb (cell segs k 2) a && (eqb (cell segs k 3) b && eqb (cell segs k 4) c) ≡ same (name_at segs k) (a ∷ b ∷ c ∷ [])
 unfolding name_at same
-has-name segs k a b c = rw (and-end (eqb (cell segs k 4) c))
+has_name segs k a b c = rw (and_end (eqb (cell segs k 4) c))
 
-count-append : (n : Text) (ms ms' : List Text) → count n (ms ++ ms') ≡ count n ms + count n ms'
+count_append : (n : Text) (ms ms' : List Text) → count n (ms ++ ms') ≡ count n ms + count n ms'
 unfolding count
-count-append n [] ms' = omega arith
-count-append n (m ∷ ms) ms' = omega (arith, count-append n ms ms')
+count_append n [] ms' = omega arith
+count_append n (m ∷ ms) ms' = omega (arith, count_append n ms ms')
 
 count_most : (n : Text) (ms : List Text) → count n ms ≤ length ms
 unfolding count
@@ -82,51 +82,51 @@ count_most n (m ∷ ms) = by_cond (λ (c : ℕ). c + count n ms ≤ suc (length 
 
 module _ (segs : List ℕ) (n : Text) (k : ℕ) where
   -- of the names behind segment j, which has the name n or not
-  names-split : (j : ℕ) → j ≤ k → count n (names segs 0 k) ≡ count n (names segs 0 j) + count n (names segs j (k - j))
+  names_split : (j : ℕ) → j ≤ k → count n (names segs 0 k) ≡ count n (names segs 0 j) + count n (names segs j (k - j))
   unfolding names
-  names-split j h =
+  names_split j h =
       let z : j + (k - j) ≡ k = omega arith in
       let y : 0 + j ≡ j = omega arith in
       sym (ap (λ (i : ℕ). count n (list_of (name_at segs) 0 i)) z)
-      ∙ ap (count n) (list-append (name_at segs) 0 j (k - j) ∙ ap (λ (i : ℕ). list_of (name_at segs) 0 j ++ list_of (name_at segs) i (k - j)) y)
-      ∙ count-append n _ _
+      ∙ ap (count n) (list_append (name_at segs) 0 j (k - j) ∙ ap (λ (i : ℕ). list_of (name_at segs) 0 j ++ list_of (name_at segs) i (k - j)) y)
+      ∙ count_append n _ _
 
-  count-step : (j : ℕ) → j < k → count n (names segs j (k - j)) ≡ cond (same (name_at segs j) n) 1 0 + count n (names segs (j + 1) (k - (j + 1)))
+  count_step : (j : ℕ) → j < k → count n (names segs j (k - j)) ≡ cond (same (name_at segs j) n) 1 0 + count n (names segs (j + 1) (k - (j + 1)))
   unfolding count names list_of
-  count-step j h = let z : k - j ≡ suc (k - (j + 1)) = omega arith in rw (z, add-one)
+  count_step j h = let z : k - j ≡ suc (k - (j + 1)) = omega arith in rw (z, add-one)
 
   -- ---- none of the segments from j on has the name
   pub record Looking (j : ℕ) : Type 0 where
     pub high : j ≤ k
     pub none : count n (names segs j (k - j)) ≡ 0
 
-  pub looking-start : Looking k
+  pub looking_start : Looking k
   unfolding count names list_of
-  looking-start = let z : k - k ≡ 0 = omega arith in record { high = omega arith; none = rw z }
+  looking_start = let z : k - k ≡ 0 = omega arith in record { high = omega arith; none = rw z }
 
 module _ {segs : List ℕ} {n : Text} {k j : ℕ} (g : Looking segs n k j) (h : 0 < j) {b : Bool} (q : b ≡ same (name_at segs (j - 1)) n) where
   last_step : {d : Bool} → same (name_at segs (j - 1)) n ≡ d → count n (names segs (j - 1) (k - (j - 1))) ≡ cond d 1 0
   last_step e =
       let z : j - 1 + 1 ≡ j = omega arith in
-      count-step segs n k (j - 1) (omega (arith, g.high)) ∙ rw (e, z, g.none) (omega arith)
+      count_step segs n k (j - 1) (omega (arith, g.high)) ∙ rw (e, z, g.none) (omega arith)
 
-  pub looking-more : b ≡ false → Looking segs n k (j - 1)
-  looking-more e = record { high = omega (arith, g.high); none = last_step (sym q ∙ e) }
+  pub looking_more : b ≡ false → Looking segs n k (j - 1)
+  looking_more e = record { high = omega (arith, g.high); none = last_step (sym q ∙ e) }
 
-  pub looking-found : Numbered segs k → b ≡ true → cell segs (j - 1) 5 + 1 ≡ count n (names segs 0 k) + 1
-  looking-found w e =
-      let same_name : name_at segs (j - 1) ≡ n = same-eq (name_at segs (j - 1)) n (sym q ∙ e) in
+  pub looking_found : Numbered segs k → b ≡ true → cell segs (j - 1) 5 + 1 ≡ count n (names segs 0 k) + 1
+  looking_found w e =
+      let same_name : name_at segs (j - 1) ≡ n = same_eq (name_at segs (j - 1)) n (sym q ∙ e) in
       let number : cell segs (j - 1) 5 ≡ count n (names segs 0 (j - 1)) + 1 = rw same_name at (w.number (j - 1) (omega (arith, g.high))) in
-      omega (arith, number, names-split segs n k (j - 1) (omega (arith, g.high)), last_step (sym q ∙ e))
+      omega (arith, number, names_split segs n k (j - 1) (omega (arith, g.high)), last_step (sym q ∙ e))
 
-pub looking-none : {segs : List ℕ} {n : Text} {k j : ℕ} → Looking segs n k j → j ≡ 0 → 1 ≡ count n (names segs 0 k) + 1
-looking-none {segs} {n} {k} {j} g e =
+pub looking_none : {segs : List ℕ} {n : Text} {k j : ℕ} → Looking segs n k j → j ≡ 0 → 1 ≡ count n (names segs 0 k) + 1
+looking_none {segs} {n} {k} {j} g e =
     let z : k - 0 ≡ k = omega arith in
     let none : count n (names segs 0 k) ≡ 0 = rw (e, z) at g.none in
     omega (arith, none)
 
 -- an occurrence is at most one more than the segments before it
-pub number-most : {segs : List ℕ} {k : ℕ} → Numbered segs k → (j : ℕ) → j < k → cell segs j 5 ≤ j + 1
+pub number_most : {segs : List ℕ} {k : ℕ} → Numbered segs k → (j : ℕ) → j < k → cell segs j 5 ≤ j + 1
 unfolding names
-number-most {segs} {k} w j h =
+number_most {segs} {k} w j h =
     omega (arith, w.number j h, count_most (name_at segs j) (list_of (name_at segs) 0 j), list_length (name_at segs) 0 j)

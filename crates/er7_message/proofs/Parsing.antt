@@ -11,79 +11,79 @@ use lib.Seq.{length-take-le}
 use Rattle.text.specs.Text.{Text}
 use Rattle.refusal.specs.declared.Refusal.{Refusal}
 use Rattle.refusal.specs.declared.Refusal.TheVariants.{TooLong, ForeignByte, BadHeader}
-use Rattle.refusal.specs.Refusal.{tooLong, noForeign}
+use Rattle.refusal.specs.Refusal.{too_long, no_foreign}
 use Rattle.refusal.specs.declared.input.Input.TheVariants as Inputs
 use Rattle.refusal.specs.Limits.{INPUT_MAX}
 use Rattle.er7.specs.declared.separators.Separators.{Separators}
-use Rattle.message_model.specs.Message.{Message, separatorsOf, isHeader, endsInCR, withoutLastCR, segmentLines, messageLines, first_of, isOpened, segments, segmentsFault, messageFault, messageOf}
-use Rattle.message_model.proofs.Faultless.{header-line, lines, lines_are}
-use Rattle.er7_table.specs.Table.{cell, placeAt, firstLeaf, segmentsFrom, list_of}
-use Rattle.er7_table.proofs.Laws.{segments-in-store}
+use Rattle.message_model.specs.Message.{Message, separators_of, is_header, ends_in_cr, without_last_cr, segment_lines, message_lines, head_of, is_opened, segments, segments_fault, message_fault, message_of}
+use Rattle.message_model.proofs.Faultless.{header_line, lines, lines_are}
+use Rattle.er7_table.specs.Table.{cell, place_at, first_leaf, segments_from, list_of}
+use Rattle.er7_table.proofs.Laws.{segments_in_store}
 use Rattle.er7_table.proofs.Reading.{within_more}
 use Rattle.er7_message.specs.declared.message.ParsedMessage.{ParsedMessage}
 use Rattle.er7_message.specs.declared.message.ParsedMessage.TheVariants.{Read, Refused}
-use Rattle.er7_message.specs.Parsed.{faultOf, StandingOr, ParsedAs}
-use Rattle.er7_message.specs.Inner.{line, LineEnd, HeaderEnd, faultBy, messageBy, linesFault, linesMessage}
-use Rattle.er7_message.proofs.Lines.{line-some}
-use Rattle.er7_message.proofs.Segments.{line-length}
+use Rattle.er7_message.specs.Parsed.{fault_of, StandingOr, ParsedAs}
+use Rattle.er7_message.specs.Inner.{line, LineEnd, HeaderEnd, fault_by, message_by, lines_fault, lines_message}
+use Rattle.er7_message.proofs.Lines.{line_some}
+use Rattle.er7_message.proofs.Segments.{line_length}
 
 -- ---- the first line
 
-first-line : {t : Text} {e : ℕ} → LineEnd t 0 e → first_of (segmentLines [] t) ≡ line t 0 e
-unfolding first_of
-first-line g = let ls = line-some g in ap first_of ls.1
+first_line : {t : Text} {e : ℕ} → LineEnd t 0 e → head_of (segment_lines [] t) ≡ line t 0 e
+unfolding head_of
+first_line g = let ls = line_some g in ap head_of ls.1
 
-pub header-bad : {t : Text} {e : ℕ} → LineEnd t 0 e → {b : Bool} → b ≡ isHeader (line t 0 e) → b ≡ false → (m : Message) (segs cells : List ℕ)
-    → ParsedAs t (linesFault t) m segs cells (Refused BadHeader)
-unfolding linesFault faultOf
-header-bad g q e m segs cells = record { is = rw (first-line g, sym q ∙ e); tables = tt }
+pub header_bad : {t : Text} {e : ℕ} → LineEnd t 0 e → {b : Bool} → b ≡ is_header (line t 0 e) → b ≡ false → (m : Message) (segs cells : List ℕ)
+    → ParsedAs t (lines_fault t) m segs cells (Refused BadHeader)
+unfolding lines_fault fault_of
+header_bad g q e m segs cells = record { is = rw (first_line g, sym q ∙ e); tables = tt }
 
-pub header-long : (l : Text) {b : Bool} → b ≡ isHeader l → b ≡ true → 8 ≤ length l
-header-long l q z = (header-line l (sym q ∙ z)).long
+pub header_long : (l : Text) {b : Bool} → b ≡ is_header l → b ≡ true → 8 ≤ length l
+header_long l q z = (header_line l (sym q ∙ z)).long
 
-pub header-end : {s : Separators} {t : Text} {e : ℕ} → LineEnd t 0 e → {b : Bool} → b ≡ isHeader (line t 0 e) → b ≡ true → s ≡ separatorsOf (line t 0 e) → HeaderEnd s t e
-header-end {s} {t} {e} g q z w = record {
+pub header_end : {s : Separators} {t : Text} {e : ℕ} → LineEnd t 0 e → {b : Bool} → b ≡ is_header (line t 0 e) → b ≡ true → s ≡ separators_of (line t 0 e) → HeaderEnd s t e
+header_end {s} {t} {e} g q z w = record {
   end = g;
-  long = omega (arith, (header-line (line t 0 e) (sym q ∙ z)).long, line-length t 0 e g.high);
+  long = omega (arith, (header_line (line t 0 e) (sym q ∙ z)).long, line_length t 0 e g.high);
   header = sym q ∙ z;
   named = w;
 }
 
 pub header_read : {s : Separators} {t : Text} {e : ℕ} → HeaderEnd s t e → (last : Bool) {segs cells : List ℕ} {a : ParsedMessage}
-    → ParsedAs t (faultBy s t) (messageBy s last t) segs cells a → ParsedAs t (linesFault t) (linesMessage last t) segs cells a
-unfolding linesFault linesMessage
-header_read {s} {t} {e} h last p = rw (first-line h.end, h.header, ← h.named) p
+    → ParsedAs t (fault_by s t) (message_by s last t) segs cells a → ParsedAs t (lines_fault t) (lines_message last t) segs cells a
+unfolding lines_fault lines_message
+header_read {s} {t} {e} h last p = rw (first_line h.end, h.header, ← h.named) p
 
 -- ---- a store that begins with the text: the tables stand for the same over it
 
-pub standing-over : (t store : Text) (m : Message) (segs cells : List ℕ) (a : ParsedMessage) → take (length t) store ≡ t → length t ≤ length store → StandingOr t m segs cells a → StandingOr store m segs cells a
-standing-over t store m segs cells (Read c) q h w = record {
+pub standing_over : (t store : Text) (m : Message) (segs cells : List ℕ) (a : ParsedMessage) → take (length t) store ≡ t → length t ≤ length store → StandingOr t m segs cells a → StandingOr store m segs cells a
+standing_over t store m segs cells (Read c) q h w = record {
   separators = w.separators;
   last = w.last;
-  segments = segments-in-store (λ i. false) segs cells t store c.segments c.leaves w.good w.segmented q ∙ w.segments;
+  segments = segments_in_store (λ i. false) segs cells t store c.segments c.leaves w.good w.segmented q ∙ w.segments;
   good = record { rows = w.good.rows; room = omega arith; ends = λ i x. omega (arith, w.good.ends i x) };
-  placed = record { within = λ i x. within_more (placeAt cells i) (length t) (length store) h (w.placed.within i x) };
+  placed = record { within = λ i x. within_more (place_at cells i) (length t) (length store) h (w.placed.within i x) };
   segmented = w.segmented;
-  segments-most = w.segments-most;
-  leaves-most = w.leaves-most;
+  segments_most = w.segments_most;
+  leaves_most = w.leaves_most;
 }
-standing-over t store m segs cells (Refused e) q h w = tt
+standing_over t store m segs cells (Refused e) q h w = tt
 
-pub parsed-over : {t : Text} (store : Text) {f : Option Refusal} {m : Message} {segs cells : List ℕ} {a : ParsedMessage} → take (length t) store ≡ t → length t ≤ length store
+pub parsed_over : {t : Text} (store : Text) {f : Option Refusal} {m : Message} {segs cells : List ℕ} {a : ParsedMessage} → take (length t) store ≡ t → length t ≤ length store
     → ParsedAs t f m segs cells a → ParsedAs store f m segs cells a
-parsed-over {t} store {f} {m} {segs} {cells} {a} q h p = record { is = p.is; tables = standing-over t store m segs cells a q h p.tables }
+parsed_over {t} store {f} {m} {segs} {cells} {a} q h p = record { is = p.is; tables = standing_over t store m segs cells a q h p.tables }
 
 -- ---- a message of no bytes
 
-no-leaf : (segs : List ℕ) → firstLeaf (set segs 1 0) 0 ≡ 0
-unfolding firstLeaf cell
-no-leaf [] = refl
-no-leaf (x ∷ []) = refl
-no-leaf (x ∷ y ∷ segs) = refl
+no_leaf : (segs : List ℕ) → first_leaf (set segs 1 0) 0 ≡ 0
+unfolding first_leaf cell
+no_leaf [] = refl
+no_leaf (x ∷ []) = refl
+no_leaf (x ∷ y ∷ segs) = refl
 
 pub nothing_read : (segs cells : List ℕ)
-    → ParsedAs [] (messageFault []) (messageOf []) (set segs 1 0) cells (Read (record { separators = separatorsOf []; segments = 0; leaves = 0; last_cr = false }))
-unfolding messageFault messageOf messageLines isOpened first_of endsInCR segmentsFault segments separatorsOf tooLong noForeign faultOf segmentsFrom list_of
+    → ParsedAs [] (message_fault []) (message_of []) (set segs 1 0) cells (Read (record { separators = separators_of []; segments = 0; leaves = 0; last_cr = false }))
+unfolding message_fault message_of message_lines is_opened head_of ends_in_cr segments_fault segments separators_of too_long no_foreign fault_of segments_from list_of
 nothing_read segs cells = record {
   is = refl;
   tables = record {
@@ -94,58 +94,58 @@ nothing_read segs cells = record {
     placed = record { within = λ i h. absurd (omega arith) };
     segmented = record {
       rows = omega arith;
-      none_before = no-leaf segs;
+      none_before = no_leaf segs;
       order = λ i j h l. let a : i ≡ 0 = omega arith in let b : j ≡ 0 = omega arith in rw (a, b) (omega arith);
-      all = no-leaf segs;
+      all = no_leaf segs;
     };
-    segments-most = omega arith;
-    leaves-most = omega arith;
+    segments_most = omega arith;
+    leaves_most = omega arith;
   };
 }
 
-pub message-empty : (t : Text) → length t ≡ 0 → {segs cells : List ℕ} {a : ParsedMessage} → ParsedAs [] (messageFault []) (messageOf []) segs cells a
-    → ParsedAs t (messageFault t) (messageOf t) segs cells a
-message-empty [] e p = p
-message-empty (x ∷ t) e p = absurd (omega arith)
+pub message_empty : (t : Text) → length t ≡ 0 → {segs cells : List ℕ} {a : ParsedMessage} → ParsedAs [] (message_fault []) (message_of []) segs cells a
+    → ParsedAs t (message_fault t) (message_of t) segs cells a
+message_empty [] e p = p
+message_empty (x ∷ t) e p = absurd (omega arith)
 
 -- ---- a message that has bytes
 
-lines-fault : (t : Text) → (length t ≡ 0 → ⊥)
-    → cond (not (isOpened (messageLines t))) (some BadHeader) (segmentsFault (separatorsOf (first_of (messageLines t))) 0 0 (messageLines t)) ≡ linesFault (withoutLastCR t)
-unfolding isOpened first_of linesFault faultBy
-lines-fault t h = let f = lines [] (withoutLastCR t) in rw (lines_are t h, f.are)
+lines_fault_lem : (t : Text) → (length t ≡ 0 → ⊥)
+    → cond (not (is_opened (message_lines t))) (some BadHeader) (segments_fault (separators_of (head_of (message_lines t))) 0 0 (message_lines t)) ≡ lines_fault (without_last_cr t)
+unfolding is_opened head_of lines_fault fault_by
+lines_fault_lem t h = let f = lines [] (without_last_cr t) in rw (lines_are t h, f.are)
 
 module _ (t : Text) where
-  pub message-long : INPUT_MAX < length t → (m : Message) (segs cells : List ℕ) → ParsedAs t (messageFault t) m segs cells (Refused TooLong)
-  unfolding messageFault tooLong faultOf
-  message-long h m segs cells = record { is = rw (lt-ltb INPUT_MAX (length t) h); tables = tt }
+  pub message_long : INPUT_MAX < length t → (m : Message) (segs cells : List ℕ) → ParsedAs t (message_fault t) m segs cells (Refused TooLong)
+  unfolding message_fault too_long fault_of
+  message_long h m segs cells = record { is = rw (lt-ltb INPUT_MAX (length t) h); tables = tt }
 
-  module _ (h : length t ≤ INPUT_MAX) {b : Bool} (q : b ≡ noForeign Inputs.Message t) where
-    pub message-foreign : b ≡ false → (m : Message) (segs cells : List ℕ) → ParsedAs t (messageFault t) m segs cells (Refused ForeignByte)
-    unfolding messageFault tooLong faultOf
-    message-foreign e m segs cells = record { is = rw (le-ltb INPUT_MAX (length t) h, sym q ∙ e); tables = tt }
+  module _ (h : length t ≤ INPUT_MAX) {b : Bool} (q : b ≡ no_foreign Inputs.Message t) where
+    pub message_foreign : b ≡ false → (m : Message) (segs cells : List ℕ) → ParsedAs t (message_fault t) m segs cells (Refused ForeignByte)
+    unfolding message_fault too_long fault_of
+    message_foreign e m segs cells = record { is = rw (le-ltb INPUT_MAX (length t) h, sym q ∙ e); tables = tt }
 
     module _ (z : b ≡ true) (some_bytes : length t ≡ 0 → ⊥) where
-      fault-is : messageFault t ≡ linesFault (withoutLastCR t)
-      unfolding messageFault tooLong
-      fault-is = rw (le-ltb INPUT_MAX (length t) h, sym q ∙ z) (lines-fault t some_bytes)
+      fault_is : message_fault t ≡ lines_fault (without_last_cr t)
+      unfolding message_fault too_long
+      fault_is = rw (le-ltb INPUT_MAX (length t) h, sym q ∙ z) (lines_fault_lem t some_bytes)
 
-      message-is : messageOf t ≡ linesMessage (endsInCR t) (withoutLastCR t)
-      unfolding messageOf linesMessage messageBy
-      message-is = rw (lines_are t some_bytes)
+      message_is : message_of t ≡ lines_message (ends_in_cr t) (without_last_cr t)
+      unfolding message_of lines_message message_by
+      message_is = rw (lines_are t some_bytes)
 
-      module _ {d : Bool} (w : d ≡ endsInCR t) {segs cells : List ℕ} {a : ParsedMessage} where
-        pub message-ended : d ≡ true → ParsedAs (take (length t - 1 - 0) t) (linesFault (take (length t - 1 - 0) t)) (linesMessage true (take (length t - 1 - 0) t)) segs cells a
-            → ParsedAs t (messageFault t) (messageOf t) segs cells a
-        unfolding withoutLastCR
-        message-ended e p =
-            let c : endsInCR t ≡ true = sym w ∙ e in
+      module _ {d : Bool} (w : d ≡ ends_in_cr t) {segs cells : List ℕ} {a : ParsedMessage} where
+        pub message_ended : d ≡ true → ParsedAs (take (length t - 1 - 0) t) (lines_fault (take (length t - 1 - 0) t)) (lines_message true (take (length t - 1 - 0) t)) segs cells a
+            → ParsedAs t (message_fault t) (message_of t) segs cells a
+        unfolding without_last_cr
+        message_ended e p =
+            let c : ends_in_cr t ≡ true = sym w ∙ e in
             let y : length t - 1 - 0 ≡ length t - 1 = omega arith in
             let n : length (take (length t - 1) t) ≡ length t - 1 = length-take-le (length t - 1) t (omega arith) in
-            rw (fault-is, message-is, c) (parsed-over t (ap (λ (i : ℕ). take i t) n) (omega (arith, n)) (rw y at p))
+            rw (fault_is, message_is, c) (parsed_over t (ap (λ (i : ℕ). take i t) n) (omega (arith, n)) (rw y at p))
 
-        pub message-open : d ≡ false → ParsedAs t (linesFault t) (linesMessage false t) segs cells a → ParsedAs t (messageFault t) (messageOf t) segs cells a
-        unfolding withoutLastCR
-        message-open e p =
-            let c : endsInCR t ≡ false = sym w ∙ e in
-            rw (fault-is, message-is, c) p
+        pub message_open : d ≡ false → ParsedAs t (lines_fault t) (lines_message false t) segs cells a → ParsedAs t (message_fault t) (message_of t) segs cells a
+        unfolding without_last_cr
+        message_open e p =
+            let c : ends_in_cr t ≡ false = sym w ∙ e in
+            rw (fault_is, message_is, c) p

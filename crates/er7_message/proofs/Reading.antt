@@ -17,31 +17,31 @@ use Rattle.refusal.specs.declared.Refusal.{Refusal}
 use Rattle.refusal.specs.declared.Refusal.TheVariants.{BadSegment, TooMany}
 use Rattle.refusal.specs.Limits.{LEAVES_MAX, SEGMENTS_MAX}
 use Rattle.er7.specs.declared.separators.Separators.{Separators}
-use Rattle.message_model.specs.Message.{Label, Segment, segment, Message, leavesOf, isNamed, count, segments, segmentLines, segmentsFault}
+use Rattle.message_model.specs.Message.{Label, Segment, segment, Message, leaves_of, is_named, count, segments, segment_lines, segments_fault}
 use Rattle.er7_table.specs.Filling.{LeafRoom}
-use Rattle.er7_table.specs.Table.{cell, list_of, Good, Placed, firstLeaf, name_at, label_at, segmentAt, segmentsFrom}
-use Rattle.er7_table.proofs.Laws.{list-snoc, list_ext, place_kept, leaves_kept, name-kept, label_kept, first-kept}
+use Rattle.er7_table.specs.Table.{cell, list_of, Good, Placed, first_leaf, name_at, label_at, segment_at, segments_from}
+use Rattle.er7_table.proofs.Laws.{list_snoc, list_ext, place_kept, leaves_kept, name_kept, label_kept, first_kept}
 use Rattle.er7_message.specs.declared.message.ParsedMessage.TheVariants.{Read, Refused}
-use Rattle.er7_message.specs.Parsed.{faultOf, ParsedAs}
-use Rattle.er7_message.specs.Inner.{line, LineEnd, faultBy, messageBy, names, Numbered, SegmentFits, SegmentRead, Reading}
-use Rattle.er7_message.proofs.Lines.{line-last, line-next, line-some}
+use Rattle.er7_message.specs.Parsed.{fault_of, ParsedAs}
+use Rattle.er7_message.specs.Inner.{line, LineEnd, fault_by, message_by, names, Numbered, SegmentFits, SegmentRead, Reading}
+use Rattle.er7_message.proofs.Lines.{line_last, line_next, line_some}
 
 -- ---- room in the table of leaves
 
-room-rows : (r : ℕ) {cells : List ℕ} {m : ℕ} → LeafRoom cells m → r ≤ LEAVES_MAX → r ≤ m → r * 8 ≤ length cells
-room-rows r h a b = zero_or r (λ e. rw e (omega arith)) (λ e. omega (arith, h.room (r - 1) (omega arith) (omega arith)))
+room_rows : (r : ℕ) {cells : List ℕ} {m : ℕ} → LeafRoom cells m → r ≤ LEAVES_MAX → r ≤ m → r * 8 ≤ length cells
+room_rows r h a b = zero_or r (λ e. rw e (omega arith)) (λ e. omega (arith, h.room (r - 1) (omega arith) (omega arith)))
 
-pub room-kept : {cells cells' : List ℕ} {m : ℕ} → LeafRoom cells m → length cells' ≡ length cells → LeafRoom cells' m
-room-kept h e = record { room = λ i a b. omega (arith, h.room i a b, e) }
+pub room_kept : {cells cells' : List ℕ} {m : ℕ} → LeafRoom cells m → length cells' ≡ length cells → LeafRoom cells' m
+room_kept h e = record { room = λ i a b. omega (arith, h.room i a b, e) }
 
-pub room-front : {cells : List ℕ} {m k : ℕ} → LeafRoom cells m → k ≤ m → LeafRoom cells k
-room-front h e = record { room = λ i a b. h.room i a (omega arith) }
+pub room_front : {cells : List ℕ} {m k : ℕ} → LeafRoom cells m → k ≤ m → LeafRoom cells k
+room_front h e = record { room = λ i a b. h.room i a (omega arith) }
 
 -- ---- nothing is read
 
-pub reading-start : (s : Separators) (t : Text) (segs cells : List ℕ) → LeafRoom cells (length t) → Reading s t segs cells 0 0 (segmentLines [] t)
-unfolding faultBy segmentsFrom names list_of
-reading-start s t segs cells h = record {
+pub reading_start : (s : Separators) (t : Text) (segs cells : List ℕ) → LeafRoom cells (length t) → Reading s t segs cells 0 0 (segment_lines [] t)
+unfolding fault_by segments_from names list_of
+reading_start s t segs cells h = record {
   many = omega arith;
   few = omega arith;
   none_yet = λ _. refl;
@@ -59,106 +59,106 @@ reading-start s t segs cells h = record {
 
 -- ---- one line more
 
-fault-on : (s : Separators) (k n : ℕ) (l : Text) (ls : List Text) {r : ℕ} → eqb k 0 || isNamed s l ≡ true → k < SEGMENTS_MAX → r ≡ n + length (leavesOf s l) → r ≤ LEAVES_MAX
-    → segmentsFault s k n (l ∷ ls) ≡ segmentsFault s (k + 1) r ls
-unfolding segmentsFault
-fault-on s k n l ls {r} e h q m = rw (e, lt-leb SEGMENTS_MAX k h, ← q, le-ltb LEAVES_MAX r m)
+fault_on : (s : Separators) (k n : ℕ) (l : Text) (ls : List Text) {r : ℕ} → eqb k 0 || is_named s l ≡ true → k < SEGMENTS_MAX → r ≡ n + length (leaves_of s l) → r ≤ LEAVES_MAX
+    → segments_fault s k n (l ∷ ls) ≡ segments_fault s (k + 1) r ls
+unfolding segments_fault
+fault_on s k n l ls {r} e h q m = rw (e, lt-leb SEGMENTS_MAX k h, ← q, le-ltb LEAVES_MAX r m)
 
 module _ {s : Separators} {t l : Text} {segs cells segs' cells' : List ℕ} {k n r : ℕ} {ls : List Text}
     (go : Reading s t segs cells k n (l ∷ ls)) (f : SegmentFits s t l k n segs cells segs' cells' r) where
   low : n ≤ r
   low = omega (arith, f.filled.count)
 
-  firsts : (j : ℕ) → j < k → firstLeaf segs' j ≡ firstLeaf segs j
-  firsts j h = first-kept segs segs' j (λ i x. f.rows j i x h)
+  firsts : (j : ℕ) → j < k → first_leaf segs' j ≡ first_leaf segs j
+  firsts j h = first_kept segs segs' j (λ i x. f.rows j i x h)
 
   -- the row behind row j begins where it did
-  nexts : (j : ℕ) → j < k → firstLeaf segs' (j + 1) ≡ firstLeaf segs (j + 1)
+  nexts : (j : ℕ) → j < k → first_leaf segs' (j + 1) ≡ first_leaf segs (j + 1)
   nexts j h = dite (ℕ_discrete (j + 1) k) (λ q. rw q (f.begins ∙ sym (go.all (omega arith)))) (λ ne. firsts (j + 1) (omega arith))
 
   labels : (j : ℕ) → j < k → label_at segs' j ≡ label_at segs j
   labels j h = label_kept segs segs' j (λ i x. f.rows j i x h)
 
-  name-rows : (j : ℕ) → j < k → name_at segs' j ≡ name_at segs j
-  name-rows j h = name-kept segs segs' j (λ i x. f.rows j i x h)
+  name_rows : (j : ℕ) → j < k → name_at segs' j ≡ name_at segs j
+  name_rows j h = name_kept segs segs' j (λ i x. f.rows j i x h)
 
-  segment-kept : (j : ℕ) → j < k → segmentAt (λ i. false) segs' cells' t j ≡ segmentAt (λ i. false) segs cells t j
-  unfolding segmentAt
-  segment-kept j h =
+  segment_kept : (j : ℕ) → j < k → segment_at (λ i. false) segs' cells' t j ≡ segment_at (λ i. false) segs cells t j
+  unfolding segment_at
+  segment_kept j h =
       rw (labels j h, firsts j h, nexts j h)
-      (ap (segment (label_at segs j)) (leaves_kept (λ i. false) cells cells' t (firstLeaf segs j) (firstLeaf segs (j + 1) - firstLeaf segs j)
+      (ap (segment (label_at segs j)) (leaves_kept (λ i. false) cells cells' t (first_leaf segs j) (first_leaf segs (j + 1) - first_leaf segs j)
       (λ i c x y. f.before i c x (omega (arith, go.up j h, go.inside j h)))))
 
-  name-here : name_at segs' k ≡ take 3 l
+  name_here : name_at segs' k ≡ take 3 l
   unfolding label_at
-  name-here = ap (λ (g : Label). g.name) f.label
+  name_here = ap (λ (g : Label). g.name) f.label
 
-  number-here : cell segs' k 5 ≡ count (take 3 l) (names segs 0 k) + 1
+  number_here : cell segs' k 5 ≡ count (take 3 l) (names segs 0 k) + 1
   unfolding label_at
-  number-here = ap (λ (g : Label). g.occurrence) f.label
+  number_here = ap (λ (g : Label). g.occurrence) f.label
 
-  names-kept : (j : ℕ) → j ≤ k → names segs' 0 j ≡ names segs 0 j
+  names_kept : (j : ℕ) → j ≤ k → names segs' 0 j ≡ names segs 0 j
   unfolding names
-  names-kept j h = list_ext (name_at segs') (name_at segs) 0 j (λ i a b. name-rows i (omega arith))
+  names_kept j h = list_ext (name_at segs') (name_at segs) 0 j (λ i a b. name_rows i (omega arith))
 
   names_more : names segs' 0 (k + 1) ≡ names segs 0 k ++ take 3 l ∷ []
   names_more =
       let z : k + 1 ≡ suc k = omega arith in
       let y : 0 + k ≡ k = omega arith in
-      rw z (snoc ∙ ap₂ (λ (xs : List Text) (x : Text). xs ++ x ∷ []) (names-kept k (omega arith)) (rw y name-here))
+      rw z (snoc ∙ ap₂ (λ (xs : List Text) (x : Text). xs ++ x ∷ []) (names_kept k (omega arith)) (rw y name_here))
     where
       snoc : names segs' 0 (suc k) ≡ names segs' 0 k ++ name_at segs' (0 + k) ∷ []
-      snoc = unfold names in list-snoc (name_at segs') 0 k
+      snoc = unfold names in list_snoc (name_at segs') 0 k
 
   numbered_more : Numbered segs' (k + 1)
   numbered_more = record {
     number = λ j h. dite (ℕ_discrete j k)
-        (λ q. rw (q, names-kept k (omega arith), name-here) number-here)
-        (λ ne. f.rows j 5 (omega arith) (omega arith) ∙ go.numbered.number j (omega arith) ∙ rw (name-rows j (omega arith), names-kept j (omega arith)));
+        (λ q. rw (q, names_kept k (omega arith), name_here) number_here)
+        (λ ne. f.rows j 5 (omega arith) (omega arith) ∙ go.numbered.number j (omega arith) ∙ rw (name_rows j (omega arith), names_kept j (omega arith)));
   }
 
-  segments-more : segmentsFrom (λ i. false) segs' cells' t 0 (k + 1) ≡ segmentsFrom (λ i. false) segs cells t 0 k ++ segmentAt (λ i. false) segs' cells' t k ∷ []
-  segments-more =
+  segments_more : segments_from (λ i. false) segs' cells' t 0 (k + 1) ≡ segments_from (λ i. false) segs cells t 0 k ++ segment_at (λ i. false) segs' cells' t k ∷ []
+  segments_more =
       let z : k + 1 ≡ suc k = omega arith in
       let y : 0 + k ≡ k = omega arith in
       rw z (snoc ∙ ap₂ (λ (xs : List Segment) (x : Segment). xs ++ x ∷ []) kept (rw y))
     where
-      snoc : segmentsFrom (λ i. false) segs' cells' t 0 (suc k) ≡ segmentsFrom (λ i. false) segs' cells' t 0 k ++ segmentAt (λ i. false) segs' cells' t (0 + k) ∷ []
-      snoc = unfold segmentsFrom in list-snoc (segmentAt (λ i. false) segs' cells' t) 0 k
+      snoc : segments_from (λ i. false) segs' cells' t 0 (suc k) ≡ segments_from (λ i. false) segs' cells' t 0 k ++ segment_at (λ i. false) segs' cells' t (0 + k) ∷ []
+      snoc = unfold segments_from in list_snoc (segment_at (λ i. false) segs' cells' t) 0 k
 
-      kept : segmentsFrom (λ i. false) segs' cells' t 0 k ≡ segmentsFrom (λ i. false) segs cells t 0 k
-      kept = unfold segmentsFrom in list_ext (segmentAt (λ i. false) segs' cells' t) (segmentAt (λ i. false) segs cells t) 0 k (λ j a b. segment-kept j (omega arith))
+      kept : segments_from (λ i. false) segs' cells' t 0 k ≡ segments_from (λ i. false) segs cells t 0 k
+      kept = unfold segments_from in list_ext (segment_at (λ i. false) segs' cells' t) (segment_at (λ i. false) segs cells t) 0 k (λ j a b. segment_kept j (omega arith))
 
-  segment-here : segments s (names segs 0 k) (l ∷ ls) ≡ segmentAt (λ i. false) segs' cells' t k ∷ segments s (names segs' 0 (k + 1)) ls
-  unfolding segments segmentAt
-  segment-here = rw (f.label, f.begins, f.ends, f.filled.are, names_more)
+  segment_here : segments s (names segs 0 k) (l ∷ ls) ≡ segment_at (λ i. false) segs' cells' t k ∷ segments s (names segs' 0 (k + 1)) ls
+  unfolding segments segment_at
+  segment_here = rw (f.label, f.begins, f.ends, f.filled.are, names_more)
 
-  slots-more : LeafRoom cells' (length t) → r ≤ LEAVES_MAX → r ≤ length t → Good cells' t r (length t)
-  slots-more h m a = record {
-    rows = room-rows r h m a;
+  slots_more : LeafRoom cells' (length t) → r ≤ LEAVES_MAX → r ≤ length t → Good cells' t r (length t)
+  slots_more h m a = record {
+    rows = room_rows r h m a;
     room = omega arith;
     ends = λ i x. split i n
         (λ y. rw (f.before i 1 (omega arith) y, f.before i 2 (omega arith) y) (go.slots.ends i y))
         (λ y. f.filled.ends i y x);
   }
 
-  placed-more : Placed cells' r (length t)
-  placed-more = record {
+  placed_more : Placed cells' r (length t)
+  placed_more = record {
     within = λ i x. split i n
         (λ y. rw (place_kept cells cells' i (λ c z. f.before i c z y)) (go.placed.within i y))
         (λ y. f.filled.within i y x);
   }
 
-  pub reading-more : r ≤ LEAVES_MAX → r ≤ length t → eqb k 0 || isNamed s l ≡ true → LeafRoom cells' (length t) → Reading s t segs' cells' (k + 1) r ls
-  reading-more m a e h = record {
+  pub reading_more : r ≤ LEAVES_MAX → r ≤ length t → eqb k 0 || is_named s l ≡ true → LeafRoom cells' (length t) → Reading s t segs' cells' (k + 1) r ls
+  reading_more m a e h = record {
     many = omega (arith, f.few);
     few = m;
     none_yet = λ q. absurd (omega arith);
-    fault = go.fault ∙ fault-on s k n l ls e f.few f.filled.count m;
-    read = go.read ∙ rw (segment-here, segments-more) (sym (append_snoc (segmentsFrom (λ i. false) segs cells t 0 k) (segmentAt (λ i. false) segs' cells' t k) (segments s (names segs' 0 (k + 1)) ls)));
+    fault = go.fault ∙ fault_on s k n l ls e f.few f.filled.count m;
+    read = go.read ∙ rw (segment_here, segments_more) (sym (append_snoc (segments_from (λ i. false) segs cells t 0 k) (segment_at (λ i. false) segs' cells' t k) (segments s (names segs' 0 (k + 1)) ls)));
     numbered = numbered_more;
-    slots = slots-more h m a;
-    placed = placed-more;
+    slots = slots_more h m a;
+    placed = placed_more;
     none_before = λ _. dite (ℕ_discrete k 0) (λ q. rw q at f.begins ∙ go.none_yet q) (λ ne. firsts 0 (omega arith) ∙ go.none_before (omega arith));
     all = λ _. f.ends;
     up = λ j x. dite (ℕ_discrete j k) (λ q. rw (q, f.begins, f.ends) low) (λ ne. rw (firsts j (omega arith), nexts j (omega arith)) (go.up j (omega arith)));
@@ -168,63 +168,63 @@ module _ {s : Separators} {t l : Text} {segs cells segs' cells' : List ℕ} {k n
 
 -- ---- a line that is refused
 
-fault-bad : (s : Separators) (k n : ℕ) (l : Text) (ls : List Text) → eqb k 0 || isNamed s l ≡ false → segmentsFault s k n (l ∷ ls) ≡ some BadSegment
-unfolding segmentsFault
-fault-bad s k n l ls e = rw e
+fault_bad : (s : Separators) (k n : ℕ) (l : Text) (ls : List Text) → eqb k 0 || is_named s l ≡ false → segments_fault s k n (l ∷ ls) ≡ some BadSegment
+unfolding segments_fault
+fault_bad s k n l ls e = rw e
 
-fault-too-many : (s : Separators) (k n : ℕ) (l : Text) (ls : List Text) → eqb k 0 || isNamed s l ≡ true → leb SEGMENTS_MAX k || ltb LEAVES_MAX (n + length (leavesOf s l)) ≡ true
-    → segmentsFault s k n (l ∷ ls) ≡ some TooMany
-unfolding segmentsFault
-fault-too-many s k n l ls e q = rw (e, q)
+fault_too_many : (s : Separators) (k n : ℕ) (l : Text) (ls : List Text) → eqb k 0 || is_named s l ≡ true → leb SEGMENTS_MAX k || ltb LEAVES_MAX (n + length (leaves_of s l)) ≡ true
+    → segments_fault s k n (l ∷ ls) ≡ some TooMany
+unfolding segments_fault
+fault_too_many s k n l ls e q = rw (e, q)
 
 refused : {t : Text} {f : Option Refusal} (e : Refusal) → f ≡ some e → (m : Message) (segs cells : List ℕ) → ParsedAs t f m segs cells (Refused e)
-unfolding faultOf
+unfolding fault_of
 refused e q m segs cells = record { is = sym q; tables = tt }
 
 -- ---- all lines are read
 
-order : {s : Separators} {t : Text} {segs cells : List ℕ} {k n : ℕ} {ls : List Text} → Reading s t segs cells k n ls → (i j : ℕ) → i ≤ j → j ≤ k → firstLeaf segs i ≤ firstLeaf segs j
+order : {s : Separators} {t : Text} {segs cells : List ℕ} {k n : ℕ} {ls : List Text} → Reading s t segs cells k n ls → (i j : ℕ) → i ≤ j → j ≤ k → first_leaf segs i ≤ first_leaf segs j
 order go i zero h l = let z : i ≡ 0 = omega arith in rw z (omega arith)
 order {s} {t} {segs} go i (suc j) h l =
     let y : j + 1 ≡ suc j = omega arith in
     dite (ℕ_discrete i (suc j)) (λ q. rw q (omega arith)) (λ ne. omega (arith, order go i j (omega arith) (omega arith), rw y at (go.up j (omega arith))))
 
-pub reading-all : {s : Separators} {t : Text} {segs cells : List ℕ} {k n : ℕ} → Reading s t segs cells k n [] → 0 < k → (last : Bool)
-    → ParsedAs t (faultBy s t) (messageBy s last t) segs cells (Read (record { separators = s; segments = k; leaves = n; last_cr = last }))
-unfolding faultOf messageBy segmentsFault segments
-reading-all {s} {t} {segs} {cells} {k} {n} go h last = record {
+pub reading_all : {s : Separators} {t : Text} {segs cells : List ℕ} {k n : ℕ} → Reading s t segs cells k n [] → 0 < k → (last : Bool)
+    → ParsedAs t (fault_by s t) (message_by s last t) segs cells (Read (record { separators = s; segments = k; leaves = n; last_cr = last }))
+unfolding fault_of message_by segments_fault segments
+reading_all {s} {t} {segs} {cells} {k} {n} go h last = record {
   is = sym go.fault;
   tables = record {
     separators = refl;
     last = refl;
-    segments = sym (go.read ∙ append-nil (segmentsFrom (λ i. false) segs cells t 0 k));
+    segments = sym (go.read ∙ append-nil (segments_from (λ i. false) segs cells t 0 k));
     good = go.slots;
     placed = go.placed;
     segmented = record { rows = omega (arith, go.many); none_before = go.none_before h; order = order go; all = go.all h };
-    segments-most = go.many;
-    leaves-most = go.few;
+    segments_most = go.many;
+    leaves_most = go.few;
   };
 }
 
 -- ---- the line that begins at index i
-module _ {s : Separators} {t : Text} {segs cells : List ℕ} {k n i e : ℕ} (go : Reading s t segs cells k n (segmentLines [] (drop i t))) (g : LineEnd t i e) where
-  pub line-bad : eqb k 0 || isNamed s (line t i e) ≡ false → (m : Message) (segs' cells' : List ℕ) → ParsedAs t (faultBy s t) m segs' cells' (Refused BadSegment)
-  line-bad q m segs' cells' =
-      let ls = line-some g in
-      refused BadSegment (go.fault ∙ ap (segmentsFault s k n) ls.1 ∙ fault-bad s k n (line t i e) ls.0 q) m segs' cells'
+module _ {s : Separators} {t : Text} {segs cells : List ℕ} {k n i e : ℕ} (go : Reading s t segs cells k n (segment_lines [] (drop i t))) (g : LineEnd t i e) where
+  pub line_bad : eqb k 0 || is_named s (line t i e) ≡ false → (m : Message) (segs' cells' : List ℕ) → ParsedAs t (fault_by s t) m segs' cells' (Refused BadSegment)
+  line_bad q m segs' cells' =
+      let ls = line_some g in
+      refused BadSegment (go.fault ∙ ap (segments_fault s k n) ls.1 ∙ fault_bad s k n (line t i e) ls.0 q) m segs' cells'
 
-  module _ (q : eqb k 0 || isNamed s (line t i e) ≡ true) {segs' cells' : List ℕ} {r : ℕ} (w : SegmentRead s t (line t i e) e k n segs cells segs' cells' r) where
-    pub line-too-many : LEAVES_MAX < r → (m : Message) (segs'' cells'' : List ℕ) → ParsedAs t (faultBy s t) m segs'' cells'' (Refused TooMany)
-    line-too-many h m segs'' cells'' =
-        let ls = line-some g in
-        refused TooMany (go.fault ∙ ap (segmentsFault s k n) ls.1 ∙ fault-too-many s k n (line t i e) ls.0 q (w.too_many h)) m segs'' cells''
+  module _ (q : eqb k 0 || is_named s (line t i e) ≡ true) {segs' cells' : List ℕ} {r : ℕ} (w : SegmentRead s t (line t i e) e k n segs cells segs' cells' r) where
+    pub line_too_many : LEAVES_MAX < r → (m : Message) (segs'' cells'' : List ℕ) → ParsedAs t (fault_by s t) m segs'' cells'' (Refused TooMany)
+    line_too_many h m segs'' cells'' =
+        let ls = line_some g in
+        refused TooMany (go.fault ∙ ap (segments_fault s k n) ls.1 ∙ fault_too_many s k n (line t i e) ls.0 q (w.too_many h)) m segs'' cells''
 
     module _ (h : r ≤ LEAVES_MAX) (room : LeafRoom cells' (length t)) where
-      pub line_on : e < length t → Reading s t segs' cells' (k + 1) r (segmentLines [] (drop (e + 1) t))
-      line_on x = reading-more (rw (line-next g x) at go) (w.fitted h) h (omega (arith, w.few h, g.high)) q room
+      pub line_on : e < length t → Reading s t segs' cells' (k + 1) r (segment_lines [] (drop (e + 1) t))
+      line_on x = reading_more (rw (line_next g x) at go) (w.fitted h) h (omega (arith, w.few h, g.high)) q room
 
-      pub line-done : e ≡ length t → (last : Bool) → ParsedAs t (faultBy s t) (messageBy s last t) segs' cells' (Read (record { separators = s; segments = k + 1; leaves = r; last_cr = last }))
-      line-done x last = reading-all (reading-more (rw (line-last g x) at go) (w.fitted h) h (omega (arith, w.few h, g.high)) q room) (omega arith) last
+      pub line_done : e ≡ length t → (last : Bool) → ParsedAs t (fault_by s t) (message_by s last t) segs' cells' (Read (record { separators = s; segments = k + 1; leaves = r; last_cr = last }))
+      line_done x last = reading_all (reading_more (rw (line_last g x) at go) (w.fitted h) h (omega (arith, w.few h, g.high)) q room) (omega arith) last
 
 -- a line behind the header is judged by its name
 pub judged : (k : ℕ) → 1 ≤ k → (b : Bool) {c d : Bool} → c ≡ b → c ≡ d → eqb k 0 || b ≡ d
@@ -233,12 +233,12 @@ judged k h b e f = rw (ne_eqb k 0 (λ q. absurd (omega arith))) (sym e ∙ f)
 -- ---- the header, which is the first line
 module _ {s : Separators} {t : Text} {segs cells segs' cells' : List ℕ} {e r : ℕ} (g : LineEnd t 0 e) (w : SegmentRead s t (line t 0 e) e 0 0 segs cells segs' cells' r)
     (room : LeafRoom cells (length t)) where
-  pub header-too-many : LEAVES_MAX < r → (m : Message) (segs'' cells'' : List ℕ) → ParsedAs t (faultBy s t) m segs'' cells'' (Refused TooMany)
-  header-too-many h = line-too-many (reading-start s t segs cells room) g refl w h
+  pub header_too_many : LEAVES_MAX < r → (m : Message) (segs'' cells'' : List ℕ) → ParsedAs t (fault_by s t) m segs'' cells'' (Refused TooMany)
+  header_too_many h = line_too_many (reading_start s t segs cells room) g refl w h
 
   module _ (h : r ≤ LEAVES_MAX) (room' : LeafRoom cells' (length t)) where
-    pub header-on : e < length t → Reading s t segs' cells' 1 r (segmentLines [] (drop (e + 1) t))
-    header-on x = line_on (reading-start s t segs cells room) g refl w h room' x
+    pub header_on : e < length t → Reading s t segs' cells' 1 r (segment_lines [] (drop (e + 1) t))
+    header_on x = line_on (reading_start s t segs cells room) g refl w h room' x
 
-    pub header-done : e ≡ length t → (last : Bool) → ParsedAs t (faultBy s t) (messageBy s last t) segs' cells' (Read (record { separators = s; segments = 1; leaves = r; last_cr = last }))
-    header-done x last = line-done (reading-start s t segs cells room) g refl w h room' x last
+    pub header_done : e ≡ length t → (last : Bool) → ParsedAs t (fault_by s t) (message_by s last t) segs' cells' (Read (record { separators = s; segments = 1; leaves = r; last_cr = last }))
+    header_done x last = line_done (reading_start s t segs cells room) g refl w h room' x last

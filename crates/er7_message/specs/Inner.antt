@@ -6,10 +6,10 @@ use Rattle.refusal.specs.declared.Refusal.{Refusal}
 use Rattle.refusal.specs.declared.Refusal.TheVariants.{BadHeader}
 use Rattle.refusal.specs.Limits.{LEAVES_MAX, SEGMENTS_MAX}
 use Rattle.er7.specs.declared.separators.Separators.{Separators}
-use Rattle.message_model.specs.Message.{Message, separatorsOf, isHeader, segmentLines, first_of, leavesOf, count, segments, segmentsFault, messageOf, messageFault}
+use Rattle.message_model.specs.Message.{Message, separators_of, is_header, segment_lines, head_of, leaves_of, count, segments, segments_fault, message_of, message_fault}
 use Rattle.er7_message.specs.declared.message.ParsedMessage.{ParsedMessage}
 use Rattle.er7_message.specs.Parsed.{ParsedAs}
-use Rattle.er7_table.specs.Table.{cell, list_of, Good, Placed, firstLeaf, name_at, label_at, segmentsFrom}
+use Rattle.er7_table.specs.Table.{cell, list_of, Good, Placed, first_leaf, name_at, label_at, segments_from}
 use Rattle.er7_table.specs.Filling.{Filled, LeafRoom}
 
 -- ---- lines
@@ -22,34 +22,34 @@ line t i e = part t i (e - i)
 pub record LineEnd (t : Text) (i r : ℕ) : Type 0 where
   pub low : i ≤ r
   pub high : r ≤ length t
-  pub runs : segmentLines [] (drop i t) ≡ segmentLines (line t i r) (drop r t)
+  pub runs : segment_lines [] (drop i t) ≡ segment_lines (line t i r) (drop r t)
   pub stops : r < length t → get_or t r 0 ≡ 0x0d
 
 -- the fault of the lines of t, and the message that they are, by the delimiters s
-unfoldable pub faultBy : Separators → Text → Option Refusal
-faultBy s t = segmentsFault s 0 0 (segmentLines [] t)
+unfoldable pub fault_by : Separators → Text → Option Refusal
+fault_by s t = segments_fault s 0 0 (segment_lines [] t)
 
-unfoldable pub messageBy : Separators → Bool → Text → Message
-messageBy s last t = record { separators = s; segments = segments s [] (segmentLines [] t); lastCR = last }
+unfoldable pub message_by : Separators → Bool → Text → Message
+message_by s last t = record { separators = s; segments = segments s [] (segment_lines [] t); last_cr = last }
 
 -- the same, by the delimiters that the first line names
-unfoldable pub linesFault : Text → Option Refusal
-linesFault t =
-    cond (not (isHeader (first_of (segmentLines [] t)))) (some BadHeader) (faultBy (separatorsOf (first_of (segmentLines [] t))) t)
+unfoldable pub lines_fault : Text → Option Refusal
+lines_fault t =
+    cond (not (is_header (head_of (segment_lines [] t)))) (some BadHeader) (fault_by (separators_of (head_of (segment_lines [] t))) t)
 
-unfoldable pub linesMessage : Bool → Text → Message
-linesMessage last t = messageBy (separatorsOf (first_of (segmentLines [] t))) last t
+unfoldable pub lines_message : Bool → Text → Message
+lines_message last t = message_by (separators_of (head_of (segment_lines [] t))) last t
 
 -- the answer to a message of no bytes, whatever the table of leaves holds
 abbrev pub NothingRead : List ℕ → ParsedMessage → Type 0
-NothingRead segs a = (cells : List ℕ) → ParsedAs [] (messageFault []) (messageOf []) segs cells a
+NothingRead segs a = (cells : List ℕ) → ParsedAs [] (message_fault []) (message_of []) segs cells a
 
 -- the first line of t, which ends at index e, is a header that names s
 pub record HeaderEnd (s : Separators) (t : Text) (e : ℕ) : Type 0 where
   pub end : LineEnd t 0 e
   pub long : 8 ≤ e
-  pub header : isHeader (line t 0 e) ≡ true
-  pub named : s ≡ separatorsOf (line t 0 e)
+  pub header : is_header (line t 0 e) ≡ true
+  pub named : s ≡ separators_of (line t 0 e)
 
 -- ---- names
 
@@ -66,10 +66,10 @@ pub record Numbered (segs : List ℕ) (k : ℕ) : Type 0 where
 -- the line l became row k, behind rows with n leaves, and its leaves the rows from n to before r
 pub record SegmentFits (s : Separators) (t l : Text) (k n : ℕ) (segs cells segs' cells' : List ℕ) (r : ℕ) : Type 0 where
   pub few : k < SEGMENTS_MAX
-  pub filled : Filled (leavesOf s l) t n cells' r
+  pub filled : Filled (leaves_of s l) t n cells' r
   pub label : label_at segs' k ≡ record { name = take 3 l; occurrence = count (take 3 l) (names segs 0 k) + 1 }
-  pub begins : firstLeaf segs' k ≡ n
-  pub ends : firstLeaf segs' (k + 1) ≡ r
+  pub begins : first_leaf segs' k ≡ n
+  pub ends : first_leaf segs' (k + 1) ≡ r
   pub rows : (i j : ℕ) → j < 8 → i < k → cell segs' i j ≡ cell segs i j
   pub before : (i j : ℕ) → j < 8 → i < n → cell cells' i j ≡ cell cells i j
 
@@ -77,7 +77,7 @@ pub record SegmentFits (s : Separators) (t l : Text) (k n : ℕ) (segs cells seg
 pub record SegmentRead (s : Separators) (t l : Text) (e k n : ℕ) (segs cells segs' cells' : List ℕ) (r : ℕ) : Type 0 where
   pub fitted : r ≤ LEAVES_MAX → SegmentFits s t l k n segs cells segs' cells' r
   pub few : r ≤ LEAVES_MAX → r ≤ e
-  pub too_many : LEAVES_MAX < r → leb SEGMENTS_MAX k || ltb LEAVES_MAX (n + length (leavesOf s l)) ≡ true
+  pub too_many : LEAVES_MAX < r → leb SEGMENTS_MAX k || ltb LEAVES_MAX (n + length (leaves_of s l)) ≡ true
   pub most : r ≤ 4097
 
 -- ---- the segments before the lines ls stand in k rows, with n leaves
@@ -85,13 +85,13 @@ pub record Reading (s : Separators) (t : Text) (segs cells : List ℕ) (k n : �
   pub many : k ≤ SEGMENTS_MAX
   pub few : n ≤ LEAVES_MAX
   pub none_yet : k ≡ 0 → n ≡ 0
-  pub fault : faultBy s t ≡ segmentsFault s k n ls
-  pub read : segments s [] (segmentLines [] t) ≡ segmentsFrom (λ i. false) segs cells t 0 k ++ segments s (names segs 0 k) ls
+  pub fault : fault_by s t ≡ segments_fault s k n ls
+  pub read : segments s [] (segment_lines [] t) ≡ segments_from (λ i. false) segs cells t 0 k ++ segments s (names segs 0 k) ls
   pub numbered : Numbered segs k
   pub slots : Good cells t n (length t)
   pub placed : Placed cells n (length t)
-  pub none_before : 0 < k → firstLeaf segs 0 ≡ 0
-  pub all : 0 < k → firstLeaf segs k ≡ n
-  pub up : (j : ℕ) → j < k → firstLeaf segs j ≤ firstLeaf segs (j + 1)
-  pub inside : (j : ℕ) → j < k → firstLeaf segs (j + 1) ≤ n
+  pub none_before : 0 < k → first_leaf segs 0 ≡ 0
+  pub all : 0 < k → first_leaf segs k ≡ n
+  pub up : (j : ℕ) → j < k → first_leaf segs j ≤ first_leaf segs (j + 1)
+  pub inside : (j : ℕ) → j < k → first_leaf segs (j + 1) ≤ n
   pub leaf_room : LeafRoom cells (length t)

@@ -5,25 +5,25 @@ use Rattle.text.specs.Text.{Text}
 use Rattle.refusal.specs.declared.Refusal.{Refusal}
 use Rattle.refusal.specs.Limits.{LEAVES_MAX, SEGMENTS_MAX}
 use Rattle.message_model.specs.Message.{Message}
-use Rattle.er7_table.specs.Table.{Good, Placed, Segmented, segmentsFrom}
+use Rattle.er7_table.specs.Table.{Good, Placed, Segmented, segments_from}
 use Rattle.er7_message.specs.declared.message.Layout.{Layout}
 use Rattle.er7_message.specs.declared.message.ParsedMessage.{ParsedMessage}
 use Rattle.er7_message.specs.declared.message.ParsedMessage.TheVariants.{Read, Refused}
 
-unfoldable pub faultOf : ParsedMessage → Option Refusal
-faultOf (Read c) = none
-faultOf (Refused e) = some e
+unfoldable pub fault_of : ParsedMessage → Option Refusal
+fault_of (Read c) = none
+fault_of (Refused e) = some e
 
 -- the tables stand for the message m over the store t; no leaf is named
 pub record Standing (t : Text) (m : Message) (segs cells : List ℕ) (c : Layout) : Type 0 where
   pub separators : c.separators ≡ m.separators
-  pub last : c.last_cr ≡ m.lastCR
-  pub segments : segmentsFrom (λ i. false) segs cells t 0 c.segments ≡ m.segments
+  pub last : c.last_cr ≡ m.last_cr
+  pub segments : segments_from (λ i. false) segs cells t 0 c.segments ≡ m.segments
   pub good : Good cells t c.leaves (length t)
   pub placed : Placed cells c.leaves (length t)
   pub segmented : Segmented segs c.segments c.leaves
-  pub segments-most : c.segments ≤ SEGMENTS_MAX
-  pub leaves-most : c.leaves ≤ LEAVES_MAX
+  pub segments_most : c.segments ≤ SEGMENTS_MAX
+  pub leaves_most : c.leaves ≤ LEAVES_MAX
 
 abbrev pub StandingOr : Text → Message → List ℕ → List ℕ → ParsedMessage → Type 0
 StandingOr t m segs cells (Read c) = Standing t m segs cells c
@@ -31,5 +31,5 @@ StandingOr t m segs cells (Refused e) = Unit {0}
 
 -- the answer a names the fault f; where there is none the tables stand for the message m
 pub record ParsedAs (t : Text) (f : Option Refusal) (m : Message) (segs cells : List ℕ) (a : ParsedMessage) : Type 0 where
-  pub is : faultOf a ≡ f
+  pub is : fault_of a ≡ f
   pub tables : StandingOr t m segs cells a

@@ -1,11 +1,11 @@
 // Reading a message: its segments and leaves, and what refuses it.
 ghost use Rattle.std.specs.Prelude.{◌≡◌, true, false, [], ◌∷◌, ◌+◌, ◌*◌, ◌≤◌, ◌<◌, length, take, drop};
 ghost use Rattle.text.specs.Text.{same};
-ghost use Rattle.message_model.specs.Message.{isHeaderName, endsInCR, isNameByte, isName, isNamed, separatorsOf, count, atField, leavesBehind, segmentLines, messageFault, messageOf};
+ghost use Rattle.message_model.specs.Message.{is_header_name, ends_in_cr, is_name_byte, is_name, is_named, separators_of, count, at_field, leaves_behind, segment_lines, message_fault, message_of};
 ghost use Rattle.er7_table.specs.Table.{name_at};
 ghost use Rattle.er7_table.specs.Filling.{LeafRoom, LeavesRead};
 ghost use Rattle.er7_message.specs.Parsed.{ParsedAs};
-ghost use Rattle.er7_message.specs.Inner.{line, LineEnd, names, Numbered, SegmentRead, Reading, HeaderEnd, faultBy, messageBy, linesFault, linesMessage, NothingRead};
+ghost use Rattle.er7_message.specs.Inner.{line, LineEnd, names, Numbered, SegmentRead, Reading, HeaderEnd, fault_by, message_by, lines_fault, lines_message, NothingRead};
 ghost use Rattle.refusal.specs.Limits.{LEAVES_MAX, SEGMENTS_MAX};
 
 use super::separators::{is_header, separators_of};
@@ -32,7 +32,7 @@ pub enum ParsedMessage {
 
 // Whether the last byte is a CR.
 fn ends_in_cr(text: &[u8]) -> bool
-    ensures { result ≡ endsInCR text.now }
+    ensures { result ≡ ends_in_cr text.now }
 {
     if text.len() == 0 {
         return false;
@@ -57,7 +57,7 @@ fn line_end(text: &[u8], i: usize) -> usize
 
 // Whether b may stand in a name.
 fn is_name_byte(b: u8) -> bool
-    ensures { result ≡ isNameByte b }
+    ensures { result ≡ is_name_byte b }
 {
     ((65 <= b) & (b <= 90)) | ((48 <= b) & (b <= 57))
 }
@@ -65,7 +65,7 @@ fn is_name_byte(b: u8) -> bool
 // Whether three bytes are the name of a segment behind the header.
 fn is_name(n: &[u8]) -> bool
     requires { length n.now ≡ 3 }
-    ensures { result ≡ isName n.now }
+    ensures { result ≡ is_name n.now }
 {
     let letters = is_name_byte(n[0]) & (is_name_byte(n[1]) & is_name_byte(n[2]));
     let header = is_header_name(n[0], n[1], n[2]);
@@ -74,7 +74,7 @@ fn is_name(n: &[u8]) -> bool
 
 // Whether a line begins with a name, behind which comes a field delimiter or the end.
 fn is_named(s: Separators, line: &[u8]) -> bool
-    ensures { result ≡ isNamed s line.now }
+    ensures { result ≡ is_named s line.now }
 {
     if line.len() < 3 {
         return false;
@@ -125,7 +125,7 @@ fn read_behind(
     cells: &mut [usize],
 ) -> usize
     requires { (1 ≤ from) × (field ≤ from) × (from ≤ end) × (end ≤ length text.now) × (n ≤ LEAVES_MAX) × (n < from) × LeafRoom cells.old (length text.now) }
-    ensures { LeavesRead (leavesBehind s (atField field) (drop from (take end text.now))) text.now end n cells.old cells.new result }
+    ensures { LeavesRead (leaves_behind s (at_field field) (drop from (take end text.now))) text.now end n cells.old cells.new result }
 {
     if from == end {
         return n;
@@ -146,7 +146,7 @@ fn read_segment(
     segs: &mut [usize; 2056],
     cells: &mut [usize],
 ) -> usize
-    requires { (i + 3 ≤ e) × (e ≤ length text.now) × (k ≤ SEGMENTS_MAX) × (n ≤ LEAVES_MAX) × (n ≤ i) × LeafRoom cells.old (length text.now) × Numbered segs.old k × (isHeaderName (take 3 (line text.now i e)) ≡ false) }
+    requires { (i + 3 ≤ e) × (e ≤ length text.now) × (k ≤ SEGMENTS_MAX) × (n ≤ LEAVES_MAX) × (n ≤ i) × LeafRoom cells.old (length text.now) × Numbered segs.old k × (is_header_name (take 3 (line text.now i e)) ≡ false) }
     ensures { SegmentRead s text.now (line text.now i e) e k n segs.old cells.old segs.new cells.new result }
 {
     if k == SEGMENTS_MAX {
@@ -173,7 +173,7 @@ fn read_header(
     segs: &mut [usize; 2056],
     cells: &mut [usize],
 ) -> usize
-    requires { (8 ≤ e) × (e ≤ length text.now) × (s ≡ separatorsOf (line text.now 0 e)) × LeafRoom cells.old (length text.now) × (isHeaderName (take 3 (line text.now 0 e)) ≡ true) }
+    requires { (8 ≤ e) × (e ≤ length text.now) × (s ≡ separators_of (line text.now 0 e)) × LeafRoom cells.old (length text.now) × (is_header_name (take 3 (line text.now 0 e)) ≡ true) }
     ensures { SegmentRead s text.now (line text.now 0 e) e 0 0 segs.old cells.old segs.new cells.new result }
 {
     put_leaf(cells, 0, at_field(1), 3, 1);
@@ -199,8 +199,8 @@ fn read_rest(
     segs: &mut [usize; 2056],
     cells: &mut [usize],
 ) -> ParsedMessage
-    requires { (from ≤ length text.now) × (n0 ≤ from) × Reading s text.now segs.old cells.old 1 n0 (segmentLines [] (drop from text.now)) }
-    ensures { ParsedAs text.now (faultBy s text.now) (messageBy s last text.now) segs.new cells.new result }
+    requires { (from ≤ length text.now) × (n0 ≤ from) × Reading s text.now segs.old cells.old 1 n0 (segment_lines [] (drop from text.now)) }
+    ensures { ParsedAs text.now (fault_by s text.now) (message_by s last text.now) segs.new cells.new result }
 {
     let mut i = from;
     let mut k = 1;
@@ -238,7 +238,7 @@ fn read_lines(
     cells: &mut [usize],
 ) -> ParsedMessage
     requires { HeaderEnd s text.now e × LeafRoom cells.old (length text.now) }
-    ensures { ParsedAs text.now (faultBy s text.now) (messageBy s last text.now) segs.new cells.new result }
+    ensures { ParsedAs text.now (fault_by s text.now) (message_by s last text.now) segs.new cells.new result }
 {
     let n = read_header(text, e, s, segs, cells);
     if LEAVES_MAX < n {
@@ -263,7 +263,7 @@ fn parse_lines(
     cells: &mut [usize],
 ) -> ParsedMessage
     requires { LeafRoom cells.old (length text.now) }
-    ensures { ParsedAs text.now (linesFault text.now) (linesMessage last text.now) segs.new cells.new result }
+    ensures { ParsedAs text.now (lines_fault text.now) (lines_message last text.now) segs.new cells.new result }
 {
     let e = line_end(text, 0);
     if !is_header(&text[0..e]) {
@@ -297,7 +297,7 @@ fn read_nothing(segs: &mut [usize; 2056]) -> ParsedMessage
 // Reads a message into the two tables, or says what refuses it.
 pub fn parse(text: &[u8], segs: &mut [usize; 2056], cells: &mut [usize]) -> ParsedMessage
     requires { LeafRoom cells.old (length text.now) }
-    ensures { ParsedAs text.now (messageFault text.now) (messageOf text.now) segs.new cells.new result }
+    ensures { ParsedAs text.now (message_fault text.now) (message_of text.now) segs.new cells.new result }
 {
     if INPUT_MAX < text.len() {
         return ParsedMessage::Refused(Refusal::TooLong);

@@ -1,13 +1,13 @@
 // The header of a message, and the delimiters that it names.
 ghost use Rattle.std.specs.Prelude.{◌≡◌, [], ◌∷◌, ◌≤◌, length};
-ghost use Rattle.message_model.specs.Message.{mayDelimit, mayDelimitAll, isHeader, separatorsOf};
+ghost use Rattle.message_model.specs.Message.{may_delimit, may_delimit_all, is_header, separators_of};
 
 use er7::separators::Separators;
 use text::bytes::{Class, is_in, same_bytes};
 
 // Whether b may delimit.
 fn may_delimit(b: u8) -> bool
-    ensures { result ≡ mayDelimit b }
+    ensures { result ≡ may_delimit b }
 {
     let alphanumeric = is_in(Class::Alphanumeric, b);
     let blank = is_in(Class::Blank, b);
@@ -16,7 +16,7 @@ fn may_delimit(b: u8) -> bool
 
 // Whether five different bytes may delimit.
 fn may_delimit_all(a: u8, b: u8, c: u8, d: u8, e: u8) -> bool
-    ensures { result ≡ mayDelimitAll (a ∷ b ∷ c ∷ d ∷ e ∷ []) }
+    ensures { result ≡ may_delimit_all (a ∷ b ∷ c ∷ d ∷ e ∷ []) }
 {
     let first = may_delimit(a) & ((a != b) & ((a != c) & ((a != d) & (a != e))));
     let second = may_delimit(b) & ((b != c) & ((b != d) & (b != e)));
@@ -28,7 +28,7 @@ fn may_delimit_all(a: u8, b: u8, c: u8, d: u8, e: u8) -> bool
 
 // Whether a message's first line is a header.
 pub fn is_header(line: &[u8]) -> bool
-    ensures { result ≡ isHeader line.now }
+    ensures { result ≡ is_header line.now }
 {
     if line.len() < 8 {
         return false;
@@ -48,7 +48,7 @@ pub fn is_header(line: &[u8]) -> bool
 // The delimiters that a header names.
 pub fn separators_of(line: &[u8]) -> Separators
     requires { 8 ≤ length line.now }
-    ensures { result ≡ separatorsOf line.now }
+    ensures { result ≡ separators_of line.now }
 {
     Separators {
         field: line[3],

@@ -11,9 +11,9 @@ use lib.IntN.{ℤ}
 use lib.ListN.{length, take, drop, get_or, length-take, length-drop, drop_of_length-le}
 use Rattle.text.specs.declared.bytes.Class.TheVariants.{Blank, NotBlank}
 use Rattle.text.specs.declared.decimal.Number.TheVariants.{At, Refused}
-use Rattle.text.specs.Text.{Text, bytes, isIn, isBlank, rest, part, RunEnd}
-use Rattle.text.specs.Number.{takeNumber, asTaken, TakenAt}
-use Rattle.text.proofs.Runs.{drop-step}
+use Rattle.text.specs.Text.{Text, bytes, is_in, is_blank, rest, part, RunEnd}
+use Rattle.text.specs.Number.{take_number, as_taken, TakenAt}
+use Rattle.text.proofs.Runs.{drop_step}
 use Rattle.er7_redact.specs.declared.action.Count.{Count}
 use Rattle.er7_redact.specs.declared.action.Count.TheVariants.{Of, BadCount}
 use Rattle.er7_redact.specs.declared.action.Verb.{Verb}
@@ -24,209 +24,209 @@ use Rattle.er7_redact.specs.declared.action.Action.TheVariants as Held
 use Rattle.refusal.specs.declared.Refusal.TheVariants.{BadAction, BadDayCount}
 use Rattle.er7_redact.specs.declared.action.ParsedAction.{ParsedAction}
 use Rattle.er7_redact.specs.declared.action.ParsedAction.TheVariants.{Parsed, Refused}
-use Rattle.er7_redact.specs.Action.{Action, shift, replacement, name, argument, argumentAt, verb, readAction, withoutPlus, whole, readCount, isNegative, withoutSign, daysOf, readDays, readMask, readReplace, readArgument, bare, heldAs, refusalOf, orRefused, heldAction, heldRead, answer, written, room}
-use Rattle.er7_redact.specs.Inner.{heldBare, heldCount, heldCounted, heldDays, count_of, Unsigned}
+use Rattle.er7_redact.specs.Action.{Action, shift, replacement, name, argument, argument_at, verb, read_action, without_plus, whole, read_count, is_negative, without_sign, days_of, read_days, read_mask, read_replace, read_argument, bare, held_as, refusal_of, or_refused, held_action, held_read, answer, written, room}
+use Rattle.er7_redact.specs.Inner.{held_bare, held_count, held_counted, held_days, count_of, Unsigned}
 
 -- ---- counts
 
 module _ {s : Text} {i : ℕ} where
-  pub plus-yes : i < length s → get_or s i 0 ≡ 0x2b → Unsigned withoutPlus s i (i + 1)
-  unfolding withoutPlus
-  plus-yes h e = record { high = omega arith; is = sym (rw (drop-step s i h, eq-eqb (get_or s i 0) 0x2b e)) }
+  pub plus_yes : i < length s → get_or s i 0 ≡ 0x2b → Unsigned without_plus s i (i + 1)
+  unfolding without_plus
+  plus_yes h e = record { high = omega arith; is = sym (rw (drop_step s i h, eq-eqb (get_or s i 0) 0x2b e)) }
 
-  pub plus-no : i < length s → (get_or s i 0 ≡ 0x2b → ⊥) → Unsigned withoutPlus s i i
-  unfolding withoutPlus
-  plus-no h e = record { high = omega arith; is = sym (rw (drop-step s i h, ne_eqb (get_or s i 0) 0x2b e)) }
+  pub plus_no : i < length s → (get_or s i 0 ≡ 0x2b → ⊥) → Unsigned without_plus s i i
+  unfolding without_plus
+  plus_no h e = record { high = omega arith; is = sym (rw (drop_step s i h, ne_eqb (get_or s i 0) 0x2b e)) }
 
-  pub plus-end : i ≤ length s → length s ≤ i → Unsigned withoutPlus s i i
-  unfolding withoutPlus
-  plus-end l h = record { high = l; is = rw (drop_of_length-le s h) }
+  pub plus_end : i ≤ length s → length s ≤ i → Unsigned without_plus s i i
+  unfolding without_plus
+  plus_end l h = record { high = l; is = rw (drop_of_length-le s h) }
 
 -- a number up to the end of s
 module _ {s : Text} {k : ℕ} where
-  pub whole-found : {n r : ℕ} → TakenAt takeNumber s k (At n r) → r ≡ length s → Of n ≡ heldCount (whole (takeNumber (drop k s)))
-  unfolding heldCount whole asTaken
-  whole-found {n} {r} g h = sym (rw (← g.is, drop_of_length-le s {i = r} (omega arith)))
+  pub whole_found : {n r : ℕ} → TakenAt take_number s k (At n r) → r ≡ length s → Of n ≡ held_count (whole (take_number (drop k s)))
+  unfolding held_count whole as_taken
+  whole_found {n} {r} g h = sym (rw (← g.is, drop_of_length-le s {i = r} (omega arith)))
 
-  pub whole-left : {n r : ℕ} → TakenAt takeNumber s k (At n r) → (r ≡ length s → ⊥) → BadCount ≡ heldCount (whole (takeNumber (drop k s)))
-  unfolding heldCount whole asTaken
-  whole-left {n} {r} g h = sym (rw (← g.is, drop-step s r (omega (arith, g.inside.1))))
+  pub whole_left : {n r : ℕ} → TakenAt take_number s k (At n r) → (r ≡ length s → ⊥) → BadCount ≡ held_count (whole (take_number (drop k s)))
+  unfolding held_count whole as_taken
+  whole_left {n} {r} g h = sym (rw (← g.is, drop_step s r (omega (arith, g.inside.1))))
 
-  pub whole-none : TakenAt takeNumber s k Refused → BadCount ≡ heldCount (whole (takeNumber (drop k s)))
-  unfolding heldCount whole asTaken
-  whole-none g = sym (rw (← g.is))
+  pub whole_none : TakenAt take_number s k Refused → BadCount ≡ held_count (whole (take_number (drop k s)))
+  unfolding held_count whole as_taken
+  whole_none g = sym (rw (← g.is))
 
-pub count-read : {s : Text} {i k : ℕ} {c : Count} → Unsigned withoutPlus s i k → c ≡ heldCount (whole (takeNumber (drop k s))) → c ≡ heldCount (readCount (drop i s))
-unfolding readCount
-count-read f e = e ∙ ap (λ (t : Text). heldCount (whole (takeNumber t))) f.is
+pub count_read : {s : Text} {i k : ℕ} {c : Count} → Unsigned without_plus s i k → c ≡ held_count (whole (take_number (drop k s))) → c ≡ held_count (read_count (drop i s))
+unfolding read_count
+count_read f e = e ∙ ap (λ (t : Text). held_count (whole (take_number t))) f.is
 
 -- ---- days
 
 module _ (s : Text) (i : ℕ) where
-  pub minus-told : i < length s → {b : Bool} → b ≡ eqb (get_or s i 0) 0x2d → b ≡ isNegative (drop i s)
-  unfolding isNegative
-  minus-told h e = e ∙ sym (rw (drop-step s i h))
+  pub minus_told : i < length s → {b : Bool} → b ≡ eqb (get_or s i 0) 0x2d → b ≡ is_negative (drop i s)
+  unfolding is_negative
+  minus_told h e = e ∙ sym (rw (drop_step s i h))
 
-  pub minus-end : length s ≤ i → false ≡ isNegative (drop i s)
-  unfolding isNegative
-  minus-end h = sym (rw (drop_of_length-le s h))
+  pub minus_end : length s ≤ i → false ≡ is_negative (drop i s)
+  unfolding is_negative
+  minus_end h = sym (rw (drop_of_length-le s h))
 
 module _ {s : Text} {i : ℕ} where
-  pub sign-yes : i < length s → (eqb (get_or s i 0) 0x2b || eqb (get_or s i 0) 0x2d) ≡ true → Unsigned withoutSign s i (i + 1)
-  unfolding withoutSign
-  sign-yes h e = record { high = omega arith; is = sym (rw (drop-step s i h, e)) }
+  pub sign_yes : i < length s → (eqb (get_or s i 0) 0x2b || eqb (get_or s i 0) 0x2d) ≡ true → Unsigned without_sign s i (i + 1)
+  unfolding without_sign
+  sign_yes h e = record { high = omega arith; is = sym (rw (drop_step s i h, e)) }
 
-  pub sign-no : i < length s → (eqb (get_or s i 0) 0x2b || eqb (get_or s i 0) 0x2d) ≡ false → Unsigned withoutSign s i i
-  unfolding withoutSign
-  sign-no h e = record { high = omega arith; is = sym (rw (drop-step s i h, e)) }
+  pub sign_no : i < length s → (eqb (get_or s i 0) 0x2b || eqb (get_or s i 0) 0x2d) ≡ false → Unsigned without_sign s i i
+  unfolding without_sign
+  sign_no h e = record { high = omega arith; is = sym (rw (drop_step s i h, e)) }
 
-  pub sign-end : i ≤ length s → length s ≤ i → Unsigned withoutSign s i i
-  unfolding withoutSign
-  sign-end l h = record { high = l; is = rw (drop_of_length-le s h) }
+  pub sign_end : i ≤ length s → length s ≤ i → Unsigned without_sign s i i
+  unfolding without_sign
+  sign_end l h = record { high = l; is = rw (drop_of_length-le s h) }
 
 -- ---- actions with their arguments
 
 module _ (s : Text) (i : ℕ) (a : HeldAction) where
-  pub bare-end : i ≡ length s → Parsed a ≡ heldBare a (drop i s)
-  unfolding heldBare
-  bare-end h = sym (rw (drop_of_length-le s {i = i} (omega arith)))
+  pub bare_end : i ≡ length s → Parsed a ≡ held_bare a (drop i s)
+  unfolding held_bare
+  bare_end h = sym (rw (drop_of_length-le s {i = i} (omega arith)))
 
-  pub bare-more : i < length s → Refused BadAction ≡ heldBare a (drop i s)
-  unfolding heldBare
-  bare-more h = sym (rw (drop-step s i h))
+  pub bare_more : i < length s → Refused BadAction ≡ held_bare a (drop i s)
+  unfolding held_bare
+  bare_more h = sym (rw (drop_step s i h))
 
 module _ (s : Text) (i j n : ℕ) where
-  pub mask-bare : i ≡ length s → Parsed (Held.Mask 0x2a) ≡ heldAction j n (readMask (drop i s))
-  unfolding heldAction heldAs readMask
-  mask-bare h = sym (rw (drop_of_length-le s {i = i} (omega arith)))
+  pub mask_bare : i ≡ length s → Parsed (Held.Mask 0x2a) ≡ held_action j n (read_mask (drop i s))
+  unfolding held_action held_as read_mask
+  mask_bare h = sym (rw (drop_of_length-le s {i = i} (omega arith)))
 
-  pub mask_one : i + 1 ≡ length s → Parsed (Held.Mask (get_or s i 0)) ≡ heldAction j n (readMask (drop i s))
-  unfolding heldAction heldAs readMask
-  mask_one h = sym (rw (drop-step s i (omega arith), drop_of_length-le s {i = i + 1} (omega arith)))
+  pub mask_one : i + 1 ≡ length s → Parsed (Held.Mask (get_or s i 0)) ≡ held_action j n (read_mask (drop i s))
+  unfolding held_action held_as read_mask
+  mask_one h = sym (rw (drop_step s i (omega arith), drop_of_length-le s {i = i + 1} (omega arith)))
 
-  pub mask-more : i + 1 < length s → Refused BadAction ≡ heldAction j n (readMask (drop i s))
-  unfolding heldAction readMask
-  mask-more h = sym (rw (drop-step s i (omega arith), drop-step s (i + 1) h))
+  pub mask_more : i + 1 < length s → Refused BadAction ≡ held_action j n (read_mask (drop i s))
+  unfolding held_action read_mask
+  mask_more h = sym (rw (drop_step s i (omega arith), drop_step s (i + 1) h))
 
 -- each verb
-held-or : (i n : ℕ) (o : Option Action) → heldAction i n o ≡ heldRead i n (orRefused BadAction o)
-unfolding heldAction heldRead
-held-or i n none = refl
-held-or i n (some a) = refl
+held_or : (i n : ℕ) (o : Option Action) → held_action i n o ≡ held_read i n (or_refused BadAction o)
+unfolding held_action held_read
+held_or i n none = refl
+held_or i n (some a) = refl
 
-held-days : (i n : ℕ) (o : Option ℤ) → heldDays o ≡ heldRead i n (orRefused BadDayCount (map shift o))
-unfolding heldDays heldRead heldAs
-held-days i n none = refl
-held-days i n (some z) = refl
+held_days_lem : (i n : ℕ) (o : Option ℤ) → held_days o ≡ held_read i n (or_refused BadDayCount (map shift o))
+unfolding held_days held_read held_as
+held_days_lem i n none = refl
+held_days_lem i n (some z) = refl
 
-count-again : (o : Option ℕ) → count_of (heldCount o) ≡ o
-unfolding count_of heldCount
-count-again none = refl
-count-again (some n) = refl
+count_again : (o : Option ℕ) → count_of (held_count o) ≡ o
+unfolding count_of held_count
+count_again none = refl
+count_again (some n) = refl
 
-bare-held : (j n : ℕ) (a : Action) (t : Text) → heldBare (heldAs j n a) t ≡ heldAction j n (bare a t)
-unfolding heldBare heldAction bare
-bare-held j n a [] = refl
-bare-held j n a (x ∷ t) = refl
+bare_held : (j n : ℕ) (a : Action) (t : Text) → held_bare (held_as j n a) t ≡ held_action j n (bare a t)
+unfolding held_bare held_action bare
+bare_held j n a [] = refl
+bare_held j n a (x ∷ t) = refl
 
-count_held : (j n : ℕ) (f : ℕ → Action) (g : ℕ → HeldAction) → ((k : ℕ) → g k ≡ heldAs j n (f k)) → (o : Option ℕ) → heldCounted g (heldCount o) ≡ heldAction j n (map f o)
-unfolding heldCounted heldCount heldAction
+count_held : (j n : ℕ) (f : ℕ → Action) (g : ℕ → HeldAction) → ((k : ℕ) → g k ≡ held_as j n (f k)) → (o : Option ℕ) → held_counted g (held_count o) ≡ held_action j n (map f o)
+unfolding held_counted held_count held_action
 count_held j n f g e none = refl
 count_held j n f g e (some k) = ap Parsed (e k)
 
-module _ {v w : Verb} (j n : ℕ) (t : Text) (e : v ≡ w) (b : refusalOf w ≡ BadAction) {r : ParsedAction} where
-  pub by-verb : r ≡ heldAction j n (readArgument v t) → r ≡ heldRead j n (orRefused (refusalOf v) (readArgument v t))
-  by-verb g =
-      let q : refusalOf v ≡ BadAction = rw e b in
-      g ∙ rw q (held-or j n (readArgument v t))
+module _ {v w : Verb} (j n : ℕ) (t : Text) (e : v ≡ w) (b : refusal_of w ≡ BadAction) {r : ParsedAction} where
+  pub by_verb : r ≡ held_action j n (read_argument v t) → r ≡ held_read j n (or_refused (refusal_of v) (read_argument v t))
+  by_verb g =
+      let q : refusal_of v ≡ BadAction = rw e b in
+      g ∙ rw q (held_or j n (read_argument v t))
 
-  pub by_bare : (a : Action) → ((u : Text) → readArgument w u ≡ bare a u) → r ≡ heldBare (heldAs j n a) t → r ≡ heldRead j n (orRefused (refusalOf v) (readArgument v t))
+  pub by_bare : (a : Action) → ((u : Text) → read_argument w u ≡ bare a u) → r ≡ held_bare (held_as j n a) t → r ≡ held_read j n (or_refused (refusal_of v) (read_argument v t))
   by_bare a f g =
-      let q : readArgument v t ≡ bare a t = rw e (f t) in
-      by-verb (g ∙ rw q (bare-held j n a t))
+      let q : read_argument v t ≡ bare a t = rw e (f t) in
+      by_verb (g ∙ rw q (bare_held j n a t))
 
-  pub by_count : (f : ℕ → Action) (g : ℕ → HeldAction) {c : Count} → ((u : Text) → readArgument w u ≡ map f (readCount u)) → ((k : ℕ) → g k ≡ heldAs j n (f k))
-      → c ≡ heldCount (readCount t) → r ≡ heldCounted g c → r ≡ heldRead j n (orRefused (refusalOf v) (readArgument v t))
+  pub by_count : (f : ℕ → Action) (g : ℕ → HeldAction) {c : Count} → ((u : Text) → read_argument w u ≡ map f (read_count u)) → ((k : ℕ) → g k ≡ held_as j n (f k))
+      → c ≡ held_count (read_count t) → r ≡ held_counted g c → r ≡ held_read j n (or_refused (refusal_of v) (read_argument v t))
   by_count f g h k p q =
-      let a : readArgument v t ≡ map f (readCount t) = rw e (h t) in
-      by-verb (q ∙ rw (p, a) (count_held j n f g k (readCount t)))
+      let a : read_argument v t ≡ map f (read_count t) = rw e (h t) in
+      by_verb (q ∙ rw (p, a) (count_held j n f g k (read_count t)))
 
-pub by-days : {s : Text} {i k : ℕ} (j n : ℕ) {v : Verb} {m : Bool} {c : Count} {r : ParsedAction} → v ≡ Verbs.Shift → m ≡ isNegative (drop i s) → Unsigned withoutSign s i k
-    → c ≡ heldCount (whole (takeNumber (drop k s))) → r ≡ heldDays (daysOf m (count_of c)) → r ≡ heldRead j n (orRefused (refusalOf v) (readArgument v (drop i s)))
-unfolding refusalOf readArgument readDays
-by-days {s} {i} {k} j n e f g h q =
-    let t : heldCount (whole (takeNumber (drop k s))) ≡ heldCount (whole (takeNumber (withoutSign (drop i s)))) = ap (λ (u : Text). heldCount (whole (takeNumber u))) g.is in
-    q ∙ rw (e, f, h, t, count-again (whole (takeNumber (withoutSign (drop i s))))) (held-days j n (readDays (drop i s)))
+pub by_days : {s : Text} {i k : ℕ} (j n : ℕ) {v : Verb} {m : Bool} {c : Count} {r : ParsedAction} → v ≡ Verbs.Shift → m ≡ is_negative (drop i s) → Unsigned without_sign s i k
+    → c ≡ held_count (whole (take_number (drop k s))) → r ≡ held_days (days_of m (count_of c)) → r ≡ held_read j n (or_refused (refusal_of v) (read_argument v (drop i s)))
+unfolding refusal_of read_argument read_days
+by_days {s} {i} {k} j n e f g h q =
+    let t : held_count (whole (take_number (drop k s))) ≡ held_count (whole (take_number (without_sign (drop i s)))) = ap (λ (u : Text). held_count (whole (take_number u))) g.is in
+    q ∙ rw (e, f, h, t, count_again (whole (take_number (without_sign (drop i s))))) (held_days_lem j n (read_days (drop i s)))
 
 -- an argument of n bytes: its bytes, or none
-pub replace-held : (s : Text) (i j : ℕ) → Parsed (Held.Replace j (length s - i)) ≡ heldAction j (length s - i) (readReplace (drop i s))
-unfolding heldAction heldAs readReplace
-replace-held s i j = go (drop i s)
+pub replace_held : (s : Text) (i j : ℕ) → Parsed (Held.Replace j (length s - i)) ≡ held_action j (length s - i) (read_replace (drop i s))
+unfolding held_action held_as read_replace
+replace_held s i j = go (drop i s)
   where
-    go : (t : Text) → Parsed (Held.Replace j (length s - i)) ≡ heldAction j (length s - i) (readReplace t)
+    go : (t : Text) → Parsed (Held.Replace j (length s - i)) ≡ held_action j (length s - i) (read_replace t)
     go [] = refl
     go (x ∷ t) = refl
 
 -- ---- a whole action
 
-module _ {s : Text} {e k : ℕ} (f : RunEnd (isIn NotBlank) s 0 e) (g : RunEnd (isIn Blank) s e k) where
-  name-is : take (e - 0) s ≡ name s
-  unfolding name isIn part
-  name-is = f.run_is
+module _ {s : Text} {e k : ℕ} (f : RunEnd (is_in NotBlank) s 0 e) (g : RunEnd (is_in Blank) s e k) where
+  name_is : take (e - 0) s ≡ name s
+  unfolding name is_in part
+  name_is = f.run_is
 
   argument_is : drop k s ≡ argument s
-  unfolding argument isIn
-  argument_is = g.rest-is ∙ ap (rest isBlank) f.rest-is
+  unfolding argument is_in
+  argument_is = g.rest_is ∙ ap (rest is_blank) f.rest_is
 
-  argument-starts : argumentAt s ≡ k
-  unfolding argumentAt
-  argument-starts = rw (← argument_is) (simp length-drop (omega (arith, g.high)))
+  argument_starts : argument_at s ≡ k
+  unfolding argument_at
+  argument_starts = rw (← argument_is) (simp length-drop (omega (arith, g.high)))
 
-  argument-length : length (argument s) ≡ length s - k
-  argument-length = rw (← argument_is) (length-drop k s)
+  argument_length : length (argument s) ≡ length s - k
+  argument_length = rw (← argument_is) (length-drop k s)
 
-  pub action-read : (base : ℕ) {v : Verb} {r : ParsedAction} → v ≡ verb (take (e - 0) s)
-      → r ≡ heldRead (base + k) (length s - k) (orRefused (refusalOf v) (readArgument v (drop k s)))
-      → r ≡ heldRead (base + argumentAt s) (length (argument s)) (readAction s)
-  unfolding readAction
-  action-read base h q = q ∙ rw (h, name-is, argument_is, argument-starts, argument-length)
+  pub action_read : (base : ℕ) {v : Verb} {r : ParsedAction} → v ≡ verb (take (e - 0) s)
+      → r ≡ held_read (base + k) (length s - k) (or_refused (refusal_of v) (read_argument v (drop k s)))
+      → r ≡ held_read (base + argument_at s) (length (argument s)) (read_action s)
+  unfolding read_action
+  action_read base h q = q ∙ rw (h, name_is, argument_is, argument_starts, argument_length)
 
 -- ---- printing
 
-pub replacement-bare : (t : Text) (i n : ℕ) → n ≡ 0 → replacement t i n ≡ bytes "REDACTED"
+pub replacement_bare : (t : Text) (i n : ℕ) → n ≡ 0 → replacement t i n ≡ bytes "REDACTED"
 unfolding replacement
-replacement-bare t i n h = rw (eq-eqb n 0 h)
+replacement_bare t i n h = rw (eq-eqb n 0 h)
 
-pub replacement-part : (t : Text) (i n : ℕ) → (n ≡ 0 → ⊥) → replacement t i n ≡ part t i n
+pub replacement_part : (t : Text) (i n : ℕ) → (n ≡ 0 → ⊥) → replacement t i n ≡ part t i n
 unfolding replacement
-replacement-part t i n h = rw (ne_eqb n 0 h)
+replacement_part t i n h = rw (ne_eqb n 0 h)
 
-pub replacement-length : (t : Text) (i n : ℕ) → (n ≡ 0 → ⊥) → i + n ≤ length t → length (replacement t i n) ≡ n
+pub replacement_length : (t : Text) (i n : ℕ) → (n ≡ 0 → ⊥) → i + n ≤ length t → length (replacement t i n) ≡ n
 unfolding part
-replacement-length t i n h l = rw (replacement-part t i n h) (simp (length-take, length-drop) (omega arith))
+replacement_length t i n h l = rw (replacement_part t i n h) (simp (length-take, length-drop) (omega arith))
 
 -- ---- applying
 
-pub room-written : (o : Option Text) → room o ≡ length (written o)
+pub room_written : (o : Option Text) → room o ≡ length (written o)
 unfolding room written
-room-written none = refl
-room-written (some w) = refl
+room_written none = refl
+room_written (some w) = refl
 
 -- what an answer says
-pub answered-nothing : (o : Option Text) → answer o ≡ Nothing → o ≡ none
+pub answered_nothing : (o : Option Text) → answer o ≡ Nothing → o ≡ none
 unfolding answer
-answered-nothing none e = refl
-answered-nothing (some w) e = let z : ◌≡◌ {A = ℕ} 0 1 = cc in absurd (omega arith)
+answered_nothing none e = refl
+answered_nothing (some w) e = let z : ◌≡◌ {A = ℕ} 0 1 = cc in absurd (omega arith)
 
-pub answered-text : (o : Option Text) {n : ℕ} → answer o ≡ Written n → o ≡ some (written o)
+pub answered_text : (o : Option Text) {n : ℕ} → answer o ≡ Written n → o ≡ some (written o)
 unfolding answer written
-answered-text none e = let z : ◌≡◌ {A = ℕ} 0 1 = cc in absurd (omega arith)
-answered-text (some w) e = refl
+answered_text none e = let z : ◌≡◌ {A = ℕ} 0 1 = cc in absurd (omega arith)
+answered_text (some w) e = refl
 
-pub answered-room : (o : Option Text) {n : ℕ} → answer o ≡ Written n → n ≡ room o
+pub answered_room : (o : Option Text) {n : ℕ} → answer o ≡ Written n → n ≡ room o
 unfolding answer room
-answered-room none e = let z : ◌≡◌ {A = ℕ} 0 1 = cc in absurd (omega arith)
-answered-room (some w) {n} e = let q : length w ≡ n = cc in sym q
+answered_room none e = let z : ◌≡◌ {A = ℕ} 0 1 = cc in absurd (omega arith)
+answered_room (some w) {n} e = let q : length w ≡ n = cc in sym q
 
-pub answered-length : (o : Option Text) {n : ℕ} → answer o ≡ Written n → n ≡ length (written o)
-answered-length o e = answered-room o e ∙ room-written o
+pub answered_length : (o : Option Text) {n : ℕ} → answer o ≡ Written n → n ≡ length (written o)
+answered_length o e = answered_room o e ∙ room_written o

@@ -18,8 +18,8 @@ use Rattle.er7_redact.specs.declared.action.Count.{Count}
 use Rattle.er7_redact.specs.declared.action.Count.TheVariants.{Of, BadCount}
 use Rattle.er7_redact.specs.declared.action.Action.TheVariants as Held
 use Rattle.er7_redact.specs.declared.action.ParsedAction.TheVariants.{Parsed, Refused}
-use Rattle.er7_redact.specs.Action.{DAYS_MAX, signed, daysOf, printDays}
-use Rattle.er7_redact.specs.Inner.{heldDays, count_of}
+use Rattle.er7_redact.specs.Action.{DAYS_MAX, signed, days_of, print_days}
+use Rattle.er7_redact.specs.Inner.{held_days, count_of}
 
 -- ---- reading
 
@@ -32,87 +32,87 @@ module _ (k : ℕ) (h : k ≤ DAYS_MAX) {z : ℤ} (e : z ≡ pos k) where
   minus_is : pos 0 -ℤ z ≡ neg_ℤ (pos k)
   minus_is = ap (λ (x : ℤ). pos 0 -ℤ x) e ∙ +ℤ_idl (neg_ℤ (pos k))
 
-  pub minus-fits : SFits w64 (pos 0 -ℤ z)
-  minus-fits = subst (SFits w64) (sym minus_is) (negative_fits k h)
+  pub minus_fits : SFits w64 (pos 0 -ℤ z)
+  minus_fits = subst (SFits w64) (sym minus_is) (negative_fits k h)
 
-  pub signed-minus : {m : Bool} → m ≡ true → to_z w64 (of_z w64 (pos 0 -ℤ z)) ≡ signed m k
+  pub signed_minus : {m : Bool} → m ≡ true → to_z w64 (of_z w64 (pos 0 -ℤ z)) ≡ signed m k
   unfolding signed
-  signed-minus p = rw p (to_z-of_z w64 (pos 0 -ℤ z) minus-fits ∙ minus_is)
+  signed_minus p = rw p (to_z-of_z w64 (pos 0 -ℤ z) minus_fits ∙ minus_is)
 
-  pub signed-plus : {m : Bool} → m ≡ false → z ≡ signed m k
+  pub signed_plus : {m : Bool} → m ≡ false → z ≡ signed m k
   unfolding signed
-  signed-plus p = rw p e
+  signed_plus p = rw p e
 
 module _ (m : Bool) {c : Count} where
   module _ {n : ℕ} (e : c ≡ Of n) where
-    pub days-read : {z z' : ℤ} → n ≤ DAYS_MAX → z' ≡ z → z ≡ signed m n → Parsed (Held.Shift z') ≡ heldDays (daysOf m (count_of c))
-    unfolding heldDays daysOf count_of
-    days-read h i q = ap (λ (z : ℤ). Parsed (Held.Shift z)) (i ∙ q) ∙ sym (rw (e, le-leb n DAYS_MAX h))
+    pub days_read : {z z' : ℤ} → n ≤ DAYS_MAX → z' ≡ z → z ≡ signed m n → Parsed (Held.Shift z') ≡ held_days (days_of m (count_of c))
+    unfolding held_days days_of count_of
+    days_read h i q = ap (λ (z : ℤ). Parsed (Held.Shift z)) (i ∙ q) ∙ sym (rw (e, le-leb n DAYS_MAX h))
 
-    pub days-over : DAYS_MAX < n → Refused BadDayCount ≡ heldDays (daysOf m (count_of c))
-    unfolding heldDays daysOf count_of
-    days-over h = sym (rw (e, lt-leb n DAYS_MAX h))
+    pub days_over : DAYS_MAX < n → Refused BadDayCount ≡ held_days (days_of m (count_of c))
+    unfolding held_days days_of count_of
+    days_over h = sym (rw (e, lt-leb n DAYS_MAX h))
 
-  pub days-bad : c ≡ BadCount → Refused BadDayCount ≡ heldDays (daysOf m (count_of c))
-  unfolding heldDays daysOf count_of
-  days-bad e = sym (rw e)
+  pub days_bad : c ≡ BadCount → Refused BadDayCount ≡ held_days (days_of m (count_of c))
+  unfolding held_days days_of count_of
+  days_bad e = sym (rw e)
 
 -- ---- the number without its sign
 
 -- -1 - n, where n is below 0
-from-minus-one : (n : ℤ) → lt_z n (pos 0) ≡ true → negsuc 0 -ℤ n ≡ pos (mag n)
-from-minus-one (pos k) h = absurd (omega (arith, ltb-true k 0 h))
-from-minus-one (negsuc k) h = rw (le-ltb (suc k) 1 (omega arith)) (ap pos (omega arith))
+from_minus_one : (n : ℤ) → lt_z n (pos 0) ≡ true → negsuc 0 -ℤ n ≡ pos (mag n)
+from_minus_one (pos k) h = absurd (omega (arith, ltb-true k 0 h))
+from_minus_one (negsuc k) h = rw (le-ltb (suc k) 1 (omega arith)) (ap pos (omega arith))
 
-negative-size : (n : ℤ) → lt_z n (pos 0) ≡ true → nat_abs n ≡ mag n + 1
-negative-size (pos k) h = absurd (omega (arith, ltb-true k 0 h))
-negative-size (negsuc k) h = omega arith
+negative_size : (n : ℤ) → lt_z n (pos 0) ≡ true → nat_abs n ≡ mag n + 1
+negative_size (pos k) h = absurd (omega (arith, ltb-true k 0 h))
+negative_size (negsuc k) h = omega arith
 
 module _ (n : ℤ) (f : SFits w64 n) {n' : ℤ} (i : n' ≡ n) (h : lt_z n' (pos 0) ≡ true) where
   less : lt_z n (pos 0) ≡ true
   less = subst (λ (x : ℤ). lt_z x (pos 0) ≡ true) i h
 
-  less-is : negsuc 0 -ℤ n' ≡ pos (mag n)
-  less-is = ap (λ (x : ℤ). negsuc 0 -ℤ x) i ∙ from-minus-one n less
+  less_is : negsuc 0 -ℤ n' ≡ pos (mag n)
+  less_is = ap (λ (x : ℤ). negsuc 0 -ℤ x) i ∙ from_minus_one n less
 
-  pub less-fits : SFits w64 (negsuc 0 -ℤ n')
-  less-fits = subst (SFits w64) (sym less-is) (record { sfits = f.sfits })
+  pub less_fits : SFits w64 (negsuc 0 -ℤ n')
+  less_fits = subst (SFits w64) (sym less_is) (record { sfits = f.sfits })
 
-  pub less-back : to_z w64 (of_z w64 (negsuc 0 -ℤ n')) ≡ pos (mag n)
-  less-back = to_z-of_z w64 (negsuc 0 -ℤ n') less-fits ∙ less-is
+  pub less_back : to_z w64 (of_z w64 (negsuc 0 -ℤ n')) ≡ pos (mag n)
+  less_back = to_z-of_z w64 (negsuc 0 -ℤ n') less_fits ∙ less_is
 
-  pub less-casts : T (non_neg (to_z w64 (of_z w64 (negsuc 0 -ℤ n')))) × Fits w64 (nat_abs (to_z w64 (of_z w64 (negsuc 0 -ℤ n'))))
-  less-casts = subst (λ (x : ℤ). T (non_neg x) × Fits w64 (nat_abs x)) (sym less-back) (tt, record { fits = omega (arith, f.sfits) })
+  pub less_casts : T (non_neg (to_z w64 (of_z w64 (negsuc 0 -ℤ n')))) × Fits w64 (nat_abs (to_z w64 (of_z w64 (negsuc 0 -ℤ n'))))
+  less_casts = subst (λ (x : ℤ). T (non_neg x) × Fits w64 (nat_abs x)) (sym less_back) (tt, record { fits = omega (arith, f.sfits) })
 
   pub size_fits : Fits w64 (nat_abs (to_z w64 (of_z w64 (negsuc 0 -ℤ n'))) + 1)
-  size_fits = subst (λ (x : ℤ). Fits w64 (nat_abs x + 1)) (sym less-back) (record { fits = omega (arith, f.sfits) })
+  size_fits = subst (λ (x : ℤ). Fits w64 (nat_abs x + 1)) (sym less_back) (record { fits = omega (arith, f.sfits) })
 
   pub size_is : nat_abs (to_z w64 (of_z w64 (negsuc 0 -ℤ n'))) + 1 ≡ nat_abs n
-  size_is = ap (λ (x : ℤ). nat_abs x + 1) less-back ∙ sym (negative-size n less)
+  size_is = ap (λ (x : ℤ). nat_abs x + 1) less_back ∙ sym (negative_size n less)
 
 not_negative : (n : ℤ) → lt_z n (pos 0) ≡ false → T (non_neg n)
 not_negative (pos k) h = tt
 not_negative (negsuc k) h = clash h
 
 module _ (n : ℤ) (f : SFits w64 n) {n' : ℤ} (i : n' ≡ n) (h : lt_z n' (pos 0) ≡ false) where
-  pub plain-casts : T (non_neg n') × Fits w64 (nat_abs n')
-  plain-casts = (not_negative n' h, subst (λ (x : ℤ). Fits w64 (nat_abs x)) (sym i) (record { fits = omega (arith, nat_abs-le n f.sfits) }))
+  pub plain_casts : T (non_neg n') × Fits w64 (nat_abs n')
+  plain_casts = (not_negative n' h, subst (λ (x : ℤ). Fits w64 (nat_abs x)) (sym i) (record { fits = omega (arith, nat_abs-le n f.sfits) }))
 
 -- ---- printing
 
-days-minus-by : (n : ℤ) → lt_z n (pos 0) ≡ true → printDays n ≡ 0x2d ∷ decimal (nat_abs n)
-unfolding printDays
-days-minus-by (pos k) h = absurd (omega (arith, ltb-true k 0 h))
-days-minus-by (negsuc k) h = refl
+days_minus_by : (n : ℤ) → lt_z n (pos 0) ≡ true → print_days n ≡ 0x2d ∷ decimal (nat_abs n)
+unfolding print_days
+days_minus_by (pos k) h = absurd (omega (arith, ltb-true k 0 h))
+days_minus_by (negsuc k) h = refl
 
-days-plus-by : (n : ℤ) → lt_z n (pos 0) ≡ false → printDays n ≡ decimal (nat_abs n)
-unfolding printDays
-days-plus-by (pos k) h = refl
-days-plus-by (negsuc k) h = clash h
+days_plus_by : (n : ℤ) → lt_z n (pos 0) ≡ false → print_days n ≡ decimal (nat_abs n)
+unfolding print_days
+days_plus_by (pos k) h = refl
+days_plus_by (negsuc k) h = clash h
 
 module _ (n : ℤ) {n' : ℤ} (i : n' ≡ n) where
-  pub days-minus : lt_z n' (pos 0) ≡ true → printDays n ≡ 0x2d ∷ decimal (nat_abs n')
-  days-minus h = ap printDays (sym i) ∙ days-minus-by n' h
+  pub days_minus : lt_z n' (pos 0) ≡ true → print_days n ≡ 0x2d ∷ decimal (nat_abs n')
+  days_minus h = ap print_days (sym i) ∙ days_minus_by n' h
 
-  pub days-plus : lt_z n' (pos 0) ≡ false → printDays n ≡ decimal (nat_abs n')
-  days-plus h = ap printDays (sym i) ∙ days-plus-by n' h
+  pub days_plus : lt_z n' (pos 0) ≡ false → print_days n ≡ decimal (nat_abs n')
+  days_plus h = ap print_days (sym i) ∙ days_plus_by n' h

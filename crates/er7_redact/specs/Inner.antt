@@ -11,18 +11,18 @@ use Rattle.er7_redact.specs.declared.action.Count.{Count}
 use Rattle.er7_redact.specs.declared.action.Count.TheVariants.{Of, BadCount}
 
 -- the enum for an action a that takes no argument, where s stands in the argument's place
-unfoldable pub heldBare : HeldAction → Text → ParsedAction
-heldBare a [] = Parsed a
-heldBare a (x ∷ s) = Refused BadAction
+unfoldable pub held_bare : HeldAction → Text → ParsedAction
+held_bare a [] = Parsed a
+held_bare a (x ∷ s) = Refused BadAction
 
 -- the enum for a count that was read, and for an action with that count
-unfoldable pub heldCount : Option ℕ → Count
-heldCount none = BadCount
-heldCount (some n) = Of n
+unfoldable pub held_count : Option ℕ → Count
+held_count none = BadCount
+held_count (some n) = Of n
 
-unfoldable pub heldCounted : (ℕ → HeldAction) → Count → ParsedAction
-heldCounted f (Of n) = Parsed (f n)
-heldCounted f BadCount = Refused BadAction
+unfoldable pub held_counted : (ℕ → HeldAction) → Count → ParsedAction
+held_counted f (Of n) = Parsed (f n)
+held_counted f BadCount = Refused BadAction
 
 -- the number in a count
 unfoldable pub count_of : Count → Option ℕ
@@ -30,9 +30,9 @@ count_of (Of n) = some n
 count_of BadCount = none
 
 -- the enum for days that were read
-unfoldable pub heldDays : Option ℤ → ParsedAction
-heldDays none = Refused BadDayCount
-heldDays (some z) = Parsed (Held.Shift z)
+unfoldable pub held_days : Option ℤ → ParsedAction
+held_days none = Refused BadDayCount
+held_days (some z) = Parsed (Held.Shift z)
 
 -- r is where what stands in s from index i on begins without its sign: without a plus, or without a sign of either kind
 pub record Unsigned (without : Text → Text) (s : Text) (i r : ℕ) : Type 0 where

@@ -1,7 +1,7 @@
 -- policy.rs: rules and postures. Assumes nothing: these are definitions.
 use Rattle.text.specs.Text.{Text}
-use Rattle.er7.specs.Path.{Path, asPath}
-use Rattle.er7_redact.specs.Action.{Action, asAction}
+use Rattle.er7.specs.Path.{Path, as_path}
+use Rattle.er7_redact.specs.Action.{Action, as_action}
 use Rattle.er7_redact.specs.declared.policy.Rule.{Rule as HeldRule}
 use Rattle.er7_redact.specs.declared.policy.Posture.{Posture as HeldPosture}
 use Rattle.er7_redact.specs.declared.policy.Posture.TheVariants as Held
@@ -17,9 +17,9 @@ pub data Posture : Type 0 where
   reject : Action → Posture
 
 -- the rule and the posture that a struct and an enum stand for in the policy's text t
-unfoldable pub asRule : Text → HeldRule → Rule
-asRule t r = record { path = asPath t r.path; action = asAction t r.action }
+unfoldable pub as_rule : Text → HeldRule → Rule
+as_rule t r = record { path = as_path t r.path; action = as_action t r.action }
 
-unfoldable pub asPosture : Text → HeldPosture → Posture
-asPosture t Held.Accept = accept
-asPosture t (Held.Reject a) = reject (asAction t a)
+unfoldable pub as_posture : Text → HeldPosture → Posture
+as_posture t Held.Accept = accept
+as_posture t (Held.Reject a) = reject (as_action t a)

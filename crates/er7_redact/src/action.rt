@@ -1,9 +1,9 @@
 // Actions: what redaction does to a value.
 ghost use Rattle.std.specs.Prelude.{◌≡◌, ℕ, ◌+◌, ◌-◌, ◌^◌, ◌≤◌, ◌<◌, min, length, take, drop, nat_abs};
 ghost use Rattle.text.specs.Text.{Text, Wrote};
-ghost use Rattle.er7_redact.specs.Action.{verbWithArgument, verb, withoutPlus, whole, readCount, readMask, isNegative, withoutSign, DAYS_MAX, daysOf, readArgument, refusalOf, orRefused, readAction, printDays, printAction, replacement, asAction, ActionHeld, heldAction, heldRead, argument, argumentAt, answer, written, room, isKeep, isNullAction};
-ghost use Rattle.text.specs.Number.{takeNumber};
-ghost use Rattle.er7_redact.specs.Inner.{Unsigned, heldBare, heldCounted, heldCount, heldDays, count_of};
+ghost use Rattle.er7_redact.specs.Action.{verb_with_argument, verb, without_plus, whole, read_count, read_mask, is_negative, without_sign, DAYS_MAX, days_of, read_argument, refusal_of, or_refused, read_action, print_days, print_action, replacement, as_action, ActionHeld, held_action, held_read, argument, argument_at, answer, written, room, is_keep, is_null_action};
+ghost use Rattle.text.specs.Number.{take_number};
+ghost use Rattle.er7_redact.specs.Inner.{Unsigned, held_bare, held_counted, held_count, held_days, count_of};
 ghost use Rattle.er7_redact.specs.Action as Spec;
 
 use calendar::texts::{shift_at, shifted_len};
@@ -63,7 +63,7 @@ pub enum Applied {
 
 // The action a as a number, each by its own.
 pub fn kind(a: Action) -> u8
-    ensures { (t : Text) → result ≡ Spec.kind (asAction t a) }
+    ensures { (t : Text) → result ≡ Spec.kind (as_action t a) }
 {
     match a {
         Action::Keep => 0,
@@ -80,20 +80,20 @@ pub fn kind(a: Action) -> u8
 
 // Whether a is `keep`, and whether it is `null`.
 pub fn is_keep(a: Action) -> bool
-    ensures { (t : Text) → result ≡ isKeep (asAction t a) }
+    ensures { (t : Text) → result ≡ is_keep (as_action t a) }
 {
     kind(a) == 0
 }
 
 pub fn is_null_action(a: Action) -> bool
-    ensures { (t : Text) → result ≡ isNullAction (asAction t a) }
+    ensures { (t : Text) → result ≡ is_null_action (as_action t a) }
 {
     kind(a) == 2
 }
 
 // Which action with an argument a word names.
 fn verb_with_argument(s: &[u8]) -> Verb
-    ensures { result ≡ verbWithArgument s.now }
+    ensures { result ≡ verb_with_argument s.now }
 {
     if is_word(s, b"replace") {
         return Verb::Replace;
@@ -135,7 +135,7 @@ fn verb_of(s: &[u8]) -> Verb
 // Where the count begins that stands in s from index i on, behind a `+` if there is one.
 fn without_plus(s: &[u8], i: usize) -> usize
     requires { i ≤ length s.now }
-    ensures { Unsigned withoutPlus s.now i result }
+    ensures { Unsigned without_plus s.now i result }
 {
     if i < s.len() {
         if s[i] == b'+' {
@@ -148,7 +148,7 @@ fn without_plus(s: &[u8], i: usize) -> usize
 // The number that stands in s from index i on, up to its end.
 fn read_whole(s: &[u8], i: usize) -> Count
     requires { i ≤ length s.now }
-    ensures { result ≡ heldCount (whole (takeNumber (drop i s.now))) }
+    ensures { result ≡ held_count (whole (take_number (drop i s.now))) }
 {
     match number_at(s, i) {
         Number::At(n, r) => {
@@ -164,7 +164,7 @@ fn read_whole(s: &[u8], i: usize) -> Count
 // The count that stands in s from index i on, up to its end.
 fn read_count(s: &[u8], i: usize) -> Count
     requires { i ≤ length s.now }
-    ensures { result ≡ heldCount (readCount (drop i s.now)) }
+    ensures { result ≡ held_count (read_count (drop i s.now)) }
 {
     read_whole(s, without_plus(s, i))
 }
@@ -172,7 +172,7 @@ fn read_count(s: &[u8], i: usize) -> Count
 // The action a, which takes no argument, if nothing stands in s from index i on.
 fn read_bare(a: Action, s: &[u8], i: usize) -> ParsedAction
     requires { i ≤ length s.now }
-    ensures { result ≡ heldBare a (drop i s.now) }
+    ensures { result ≡ held_bare a (drop i s.now) }
 {
     if i == s.len() {
         return ParsedAction::Parsed(a);
@@ -183,7 +183,7 @@ fn read_bare(a: Action, s: &[u8], i: usize) -> ParsedAction
 // `mask` with the argument that stands in s from index i on.
 fn read_mask(s: &[u8], i: usize) -> ParsedAction
     requires { i ≤ length s.now }
-    ensures { (j n : ℕ) → result ≡ heldAction j n (readMask (drop i s.now)) }
+    ensures { (j n : ℕ) → result ≡ held_action j n (read_mask (drop i s.now)) }
 {
     if i == s.len() {
         return ParsedAction::Parsed(Action::Mask(b'*'));
@@ -196,7 +196,7 @@ fn read_mask(s: &[u8], i: usize) -> ParsedAction
 
 // `first` and `last` with a count.
 fn first_of(count: Count) -> ParsedAction
-    ensures { result ≡ heldCounted Action.First count }
+    ensures { result ≡ held_counted Action.First count }
 {
     match count {
         Count::Of(n) => ParsedAction::Parsed(Action::First(n)),
@@ -205,7 +205,7 @@ fn first_of(count: Count) -> ParsedAction
 }
 
 fn last_of(count: Count) -> ParsedAction
-    ensures { result ≡ heldCounted Action.Last count }
+    ensures { result ≡ held_counted Action.Last count }
 {
     match count {
         Count::Of(n) => ParsedAction::Parsed(Action::Last(n)),
@@ -216,7 +216,7 @@ fn last_of(count: Count) -> ParsedAction
 // Whether a minus stands in s at index i.
 fn is_negative(s: &[u8], i: usize) -> bool
     requires { i ≤ length s.now }
-    ensures { result ≡ isNegative (drop i s.now) }
+    ensures { result ≡ is_negative (drop i s.now) }
 {
     if i < s.len() {
         return s[i] == b'-';
@@ -227,7 +227,7 @@ fn is_negative(s: &[u8], i: usize) -> bool
 // Where the digits begin that stand in s from index i on, behind a sign if there is one.
 fn without_sign(s: &[u8], i: usize) -> usize
     requires { i ≤ length s.now }
-    ensures { Unsigned withoutSign s.now i result }
+    ensures { Unsigned without_sign s.now i result }
 {
     if i < s.len() {
         if (s[i] == b'+') | (s[i] == b'-') {
@@ -253,7 +253,7 @@ fn signed(minus: bool, days: u64) -> i64
 
 // `shift` with a number of days.
 fn shift_by(minus: bool, count: Count) -> ParsedAction
-    ensures { result ≡ heldDays (daysOf minus (count_of count)) }
+    ensures { result ≡ held_days (days_of minus (count_of count)) }
 {
     match count {
         Count::Of(n) => {
@@ -269,7 +269,7 @@ fn shift_by(minus: bool, count: Count) -> ParsedAction
 // The action that v names, with the argument that stands in s from index i on; s stands in a text from index base on.
 fn read_argument(v: Verb, s: &[u8], i: usize, base: usize) -> ParsedAction
     requires { (i ≤ length s.now) × (base + length s.now < 2 ^ 64) }
-    ensures { result ≡ heldRead (base + i) (length s.now - i) (orRefused (refusalOf v) (readArgument v (drop i s.now))) }
+    ensures { result ≡ held_read (base + i) (length s.now - i) (or_refused (refusal_of v) (read_argument v (drop i s.now))) }
 {
     match v {
         Verb::Keep => read_bare(Action::Keep, s, i),
@@ -292,7 +292,7 @@ fn read_argument(v: Verb, s: &[u8], i: usize, base: usize) -> ParsedAction
 // Reads s, which has no blanks around it and stands in a text from index base on, as an action.
 pub fn parse(s: &[u8], base: usize) -> ParsedAction
     requires { base + length s.now < 2 ^ 64 }
-    ensures { result ≡ heldRead (base + argumentAt s.now) (length (argument s.now)) (readAction s.now) }
+    ensures { result ≡ held_read (base + argument_at s.now) (length (argument s.now)) (read_action s.now) }
 {
     let end = run_end(s, 0, Class::NotBlank);
     let start = run_end(s, end, Class::Blank);
@@ -324,8 +324,8 @@ fn magnitude(n: i64) -> u64
 
 // Writes the days n to out from index at on, and returns the index behind them.
 fn days_at(out: &mut [u8], at: usize, n: i64) -> usize
-    requires { at + length (printDays n) ≤ length out.old }
-    ensures { Wrote out.old at (printDays n) out.new result }
+    requires { at + length (print_days n) ≤ length out.old }
+    ensures { Wrote out.old at (print_days n) out.new result }
 {
     if n < 0 {
         let k = byte_at(out, at, b'-');
@@ -336,7 +336,7 @@ fn days_at(out: &mut [u8], at: usize, n: i64) -> usize
 
 // The length of what days_at writes.
 fn days_len(n: i64) -> usize
-    ensures { (result ≡ length (printDays n)) × (result ≤ 21) }
+    ensures { (result ≡ length (print_days n)) × (result ≤ 21) }
 {
     if n < 0 {
         return decimal_len(magnitude(n)) + 1;
@@ -346,8 +346,8 @@ fn days_len(n: i64) -> usize
 
 // Writes the action a, whose replacement stands in text, to out from index at on, and returns the index behind it.
 pub fn print(a: Action, text: &[u8], out: &mut [u8], at: usize) -> usize
-    requires { ActionHeld text.now a × (at + length (printAction (asAction text.now a)) ≤ length out.old) }
-    ensures { Wrote out.old at (printAction (asAction text.now a)) out.new result }
+    requires { ActionHeld text.now a × (at + length (print_action (as_action text.now a)) ≤ length out.old) }
+    ensures { Wrote out.old at (print_action (as_action text.now a)) out.new result }
 {
     match a {
         Action::Keep => copy_at(out, at, b"keep"),
@@ -390,7 +390,7 @@ fn replacement_len(len: usize) -> usize
 // The length of what print writes.
 pub fn printed_len(a: Action, text: &[u8]) -> usize
     requires { ActionHeld text.now a }
-    ensures { result ≡ length (printAction (asAction text.now a)) }
+    ensures { result ≡ length (print_action (as_action text.now a)) }
 {
     match a {
         Action::Keep => 4,
@@ -432,8 +432,8 @@ fn keep_last(value: &[u8], n: u64, out: &mut [u8], at: usize) -> usize
 // Writes the text that the action a, whose replacement stands in text, puts in the place of value, under key, to out from index at on,
 // and returns the index behind it; nothing is written for `keep` and `null`.
 pub fn apply(a: Action, text: &[u8], key: u64, value: &[u8], out: &mut [u8], at: usize) -> usize
-    requires { ActionHeld text.now a × (at + room (Spec.apply key (asAction text.now a) value.now) ≤ length out.old) }
-    ensures { Wrote out.old at (written (Spec.apply key (asAction text.now a) value.now)) out.new result }
+    requires { ActionHeld text.now a × (at + room (Spec.apply key (as_action text.now a) value.now) ≤ length out.old) }
+    ensures { Wrote out.old at (written (Spec.apply key (as_action text.now a) value.now)) out.new result }
 {
     match a {
         Action::Keep => at,
@@ -460,7 +460,7 @@ fn kept_len(len: usize, n: u64) -> usize
 
 // The length of what the action a writes in the place of value, if it writes.
 pub fn applied_len(a: Action, value: &[u8]) -> Applied
-    ensures { (t : Text) (key : ℕ) → ActionHeld t a → result ≡ answer (Spec.apply key (asAction t a) value.now) }
+    ensures { (t : Text) (key : ℕ) → ActionHeld t a → result ≡ answer (Spec.apply key (as_action t a) value.now) }
 {
     match a {
         Action::Keep => Applied::Nothing,

@@ -1,10 +1,10 @@
 -- What the tables print as. Assumes nothing: these are definitions.
 use Rattle.std.specs.Prelude.{false, List, ℕ}
 use Rattle.text.specs.Text.{Text}
-use Rattle.message_model.specs.Message.{printSegments}
-use Rattle.er7_table.specs.Table.{segmentsFrom}
+use Rattle.message_model.specs.Message.{print_segments}
+use Rattle.er7_table.specs.Table.{segments_from}
 use Rattle.er7_message.specs.declared.message.Layout.{Layout}
 
 -- the bytes of the message in the tables; which leaves are named does not matter
 unfoldable pub rendered : Layout → List ℕ → List ℕ → Text → Text
-rendered c segs cells store = printSegments c.separators c.last_cr (segmentsFrom (λ i. false) segs cells store 0 c.segments)
+rendered c segs cells store = print_segments c.separators c.last_cr (segments_from (λ i. false) segs cells store 0 c.segments)

@@ -4,7 +4,7 @@ ghost use Rattle.text.specs.Text.{Wrote};
 ghost use Rattle.message_model.specs.Message.{delimiter};
 ghost use Rattle.er7_table.specs.Table.{name_at, BytesNamed, AllNamed, Good, Segmented};
 ghost use Rattle.er7_render.specs.Rendered.{rendered};
-ghost use Rattle.er7_render.specs.Inner.{leadIn, ending, InStore, InTables, leafText, leavesText, segmentText};
+ghost use Rattle.er7_render.specs.Inner.{lead_in, ending, InStore, InTables, leaf_text, leaves_text, segment_text};
 
 use er7::message::Place;
 use er7::separators::Separators;
@@ -30,8 +30,8 @@ pub fn delimiter_before(s: Separators, p: Place) -> u8
 
 // Writes what stands before a leaf at p to out from index at on: its delimiter, and nothing before MSH-1 and MSH-2. Returns the index behind it.
 fn put_lead(s: Separators, header: bool, p: Place, out: &mut [u8], at: usize) -> usize
-    requires { at + length (leadIn s header p) ≤ length out.old }
-    ensures { Wrote out.old at (leadIn s header p) out.new result }
+    requires { at + length (lead_in s header p) ≤ length out.old }
+    ensures { Wrote out.old at (lead_in s header p) out.new result }
 {
     if header & (p.field <= 2) {
         return at;
@@ -49,8 +49,8 @@ fn print_leaf(
     out: &mut [u8],
     at: usize,
 ) -> usize
-    requires { InStore cells.now store.now i × (at + length (leafText s header cells.now store.now i) ≤ length out.old) }
-    ensures { Wrote out.old at (leafText s header cells.now store.now i) out.new result }
+    requires { InStore cells.now store.now i × (at + length (leaf_text s header cells.now store.now i) ≤ length out.old) }
+    ensures { Wrote out.old at (leaf_text s header cells.now store.now i) out.new result }
 {
     let row = i * 8;
     if cells[row + 3] != 0 {
@@ -74,8 +74,8 @@ fn put_leaves(
     out: &mut [u8],
     at: usize,
 ) -> usize
-    requires { (first ≤ end) × Good cells.now store.now end (length store.now) × (at + length (leavesText s header cells.now store.now first (end - first)) ≤ length out.old) }
-    ensures { Wrote out.old at (leavesText s header cells.now store.now first (end - first)) out.new result }
+    requires { (first ≤ end) × Good cells.now store.now end (length store.now) × (at + length (leaves_text s header cells.now store.now first (end - first)) ≤ length out.old) }
+    ensures { Wrote out.old at (leaves_text s header cells.now store.now first (end - first)) out.new result }
 {
     let mut i = first;
     let mut k = at;
@@ -121,8 +121,8 @@ fn print_segment(
     out: &mut [u8],
     at: usize,
 ) -> usize
-    requires { InTables segs.now cells.now store.now k × (at + length (segmentText layout.separators layout.last_cr segs.now cells.now store.now layout.segments k) ≤ length out.old) }
-    ensures { Wrote out.old at (segmentText layout.separators layout.last_cr segs.now cells.now store.now layout.segments k) out.new result }
+    requires { InTables segs.now cells.now store.now k × (at + length (segment_text layout.separators layout.last_cr segs.now cells.now store.now layout.segments k) ≤ length out.old) }
+    ensures { Wrote out.old at (segment_text layout.separators layout.last_cr segs.now cells.now store.now layout.segments k) out.new result }
 {
     let row = k * 8;
     let first = segs[row + 1];

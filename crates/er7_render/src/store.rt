@@ -3,7 +3,7 @@
 ghost use Rattle.std.specs.Prelude.{◌≡◌, cond, ◌+◌, ◌*◌, ◌≤◌, length, eqb};
 ghost use Rattle.text.specs.Text.{SameTo};
 ghost use Rattle.er7_table.specs.Table.{Good};
-ghost use Rattle.er7_render.specs.Stored.{TextSet, Vanished, liveLen, liveSum, Packed, RoomMade};
+ghost use Rattle.er7_render.specs.Stored.{TextSet, Vanished, live_len, live_sum, Packed, RoomMade};
 ghost use Rattle.er7_render.specs.Inner.{InStore, LeafPacked};
 ghost use Rattle.refusal.specs.Limits.{LEARNT_BYTES_MAX, TEXT_MAX};
 
@@ -42,7 +42,7 @@ fn live_len(gone: usize, len: usize) -> usize
 // Copies the text of leaf i, if the leaf has not vanished, from the store to spare from index at on, and makes it the leaf's text there.
 // Returns the index behind it.
 fn pack_leaf(cells: &mut [usize], i: usize, store: &[u8], spare: &mut [u8], at: usize) -> usize
-    requires { InStore cells.old store.now i × (at + liveLen cells.old i ≤ length spare.old) }
+    requires { InStore cells.old store.now i × (at + live_len cells.old i ≤ length spare.old) }
     ensures { LeafPacked cells.old store.now i spare.old at cells.new spare.new result }
 {
     let row = i * 8;
@@ -57,7 +57,7 @@ fn pack_leaf(cells: &mut [usize], i: usize, store: &[u8], spare: &mut [u8], at: 
 // Copies the texts of the n leaves that have not vanished, in order, to the front of spare, and makes them the leaves' texts there.
 // Returns how many bytes they are.
 fn pack(n: usize, cells: &mut [usize], store: &[u8], spare: &mut [u8]) -> usize
-    requires { Good cells.old store.now n (length store.now) × (liveSum cells.old 0 n ≤ length spare.old) }
+    requires { Good cells.old store.now n (length store.now) × (live_sum cells.old 0 n ≤ length spare.old) }
     ensures { Packed cells.old store.now n cells.new spare.new result }
 {
     let mut at = 0;
@@ -72,7 +72,7 @@ fn pack(n: usize, cells: &mut [usize], store: &[u8], spare: &mut [u8]) -> usize
 // Leaves in the store, of which the first used bytes hold the texts of n leaves, only the texts of those that have not vanished.
 // Returns how many bytes they are. What spare holds is lost.
 fn compact(n: usize, cells: &mut [usize], store: &mut [u8], spare: &mut [u8], used: usize) -> usize
-    requires { Good cells.old store.old n used × (liveSum cells.old 0 n ≤ length store.old) × (liveSum cells.old 0 n ≤ length spare.old) }
+    requires { Good cells.old store.old n used × (live_sum cells.old 0 n ≤ length store.old) × (live_sum cells.old 0 n ≤ length spare.old) }
     ensures { Packed cells.old store.old n cells.new store.new result }
 {
     let r = pack(n, cells, store, spare);
@@ -89,7 +89,7 @@ fn compact_behind(
     from: usize,
     used: usize,
 ) -> usize
-    requires { Good cells.old store.old n used × (liveSum cells.old 0 n ≤ length store.old) × (from + liveSum cells.old 0 n ≤ length bytes.old) }
+    requires { Good cells.old store.old n used × (live_sum cells.old 0 n ≤ length store.old) × (from + live_sum cells.old 0 n ≤ length bytes.old) }
     ensures { Packed cells.old store.old n cells.new store.new result × SameTo from bytes.old bytes.new }
 {
     compact(n, cells, store, &mut bytes[from..], used)
@@ -106,7 +106,7 @@ pub fn make_room(
     from: usize,
     used: usize,
 ) -> usize
-    requires { Good cells.old store.old n used × (liveSum cells.old 0 n ≤ TEXT_MAX) × (from ≤ LEARNT_BYTES_MAX) }
+    requires { Good cells.old store.old n used × (live_sum cells.old 0 n ≤ TEXT_MAX) × (from ≤ LEARNT_BYTES_MAX) }
     ensures { RoomMade n cells.old store.old bytes.old from cells.new store.new bytes.new result }
 {
     if used <= TEXT_MAX {

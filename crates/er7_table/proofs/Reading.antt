@@ -12,15 +12,15 @@ use lib.Dec.{eqb}
 use lib.ListN.{length, take, drop, get_or, length-append, drop_of_length-le}
 use lib.Seq.{append_snoc, length-take-le}
 use Rattle.text.specs.Text.{Text, part}
-use Rattle.text.proofs.Kept.{part-take}
+use Rattle.text.proofs.Kept.{part_take}
 use Rattle.text.proofs.Laws.{by_cond}
-use Rattle.text.proofs.Runs.{drop-step, part-more}
+use Rattle.text.proofs.Runs.{drop_step, part_more}
 use Rattle.er7.specs.declared.message.Place.{Place}
 use Rattle.er7.specs.declared.separators.Separators.{Separators}
-use Rattle.message_model.specs.Message.{Leaf, leaf, endsLeaf, next, leaves}
-use Rattle.er7_table.specs.Table.{cell, list_of, placeAt, storedText, leafAt, leavesFrom, Within}
+use Rattle.message_model.specs.Message.{Leaf, leaf, ends_leaf, next, leaves}
+use Rattle.er7_table.specs.Table.{cell, list_of, place_at, stored_text, leaf_at, leaves_from, Within}
 use Rattle.er7_table.specs.Filling.{LeafEnd, LeafPut, LeavesRead}
-use Rattle.er7_table.proofs.Laws.{list-snoc, list_ext, list_length, leaves_kept, place_kept}
+use Rattle.er7_table.proofs.Laws.{list_snoc, list_ext, list_length, leaves_kept, place_kept}
 use Rattle.refusal.specs.Limits.{LEAVES_MAX}
 
 -- ---- `next`, case by case
@@ -29,19 +29,19 @@ module _ (s : Separators) (x : ℕ) (p : Place) where
   unfolding next
   next_field e = rw (eq-eqb _ _ e)
 
-  pub next-repetition : (x ≡ s.field → ⊥) → x ≡ s.repetition → record { field = p.field; repetition = p.repetition + 1; component = 1; subcomponent = 1 } ≡ next s x p
+  pub next_repetition : (x ≡ s.field → ⊥) → x ≡ s.repetition → record { field = p.field; repetition = p.repetition + 1; component = 1; subcomponent = 1 } ≡ next s x p
   unfolding next
-  next-repetition a e = rw (ne_eqb _ _ a, eq-eqb _ _ e)
+  next_repetition a e = rw (ne_eqb _ _ a, eq-eqb _ _ e)
 
-  pub next-component : (x ≡ s.field → ⊥) → (x ≡ s.repetition → ⊥) → x ≡ s.component
+  pub next_component : (x ≡ s.field → ⊥) → (x ≡ s.repetition → ⊥) → x ≡ s.component
       → record { field = p.field; repetition = p.repetition; component = p.component + 1; subcomponent = 1 } ≡ next s x p
   unfolding next
-  next-component a b e = rw (ne_eqb _ _ a, ne_eqb _ _ b, eq-eqb _ _ e)
+  next_component a b e = rw (ne_eqb _ _ a, ne_eqb _ _ b, eq-eqb _ _ e)
 
-  pub next-subcomponent : (x ≡ s.field → ⊥) → (x ≡ s.repetition → ⊥) → (x ≡ s.component → ⊥)
+  pub next_subcomponent : (x ≡ s.field → ⊥) → (x ≡ s.repetition → ⊥) → (x ≡ s.component → ⊥)
       → record { field = p.field; repetition = p.repetition; component = p.component; subcomponent = p.subcomponent + 1 } ≡ next s x p
   unfolding next
-  next-subcomponent a b c = rw (ne_eqb _ _ a, ne_eqb _ _ b, ne_eqb _ _ c)
+  next_subcomponent a b c = rw (ne_eqb _ _ a, ne_eqb _ _ b, ne_eqb _ _ c)
 
 pub within_more : (p : Place) (i j : ℕ) → i ≤ j → Within p i → Within p j
 within_more p i j h u = record {
@@ -49,74 +49,74 @@ within_more p i j h u = record {
   repetition = omega (arith, u.repetition);
   component = omega (arith, u.component);
   subcomponent = omega (arith, u.subcomponent);
-  first-repetition = u.first-repetition;
-  first-component = u.first-component;
-  first-subcomponent = u.first-subcomponent;
+  first_repetition = u.first_repetition;
+  first_component = u.first_component;
+  first_subcomponent = u.first_subcomponent;
 }
 
 -- the numbers of the next place are at most one more
-pub within-next : (s : Separators) (x : ℕ) (p : Place) (i : ℕ) → Within p i → Within (next s x p) (i + 1)
+pub within_next : (s : Separators) (x : ℕ) (p : Place) (i : ℕ) → Within p i → Within (next s x p) (i + 1)
 unfolding next
-within-next s x p i u =
+within_next s x p i u =
     by_cond (λ (q : Place). Within q (i + 1)) (eqb x s.field) _ _ (λ _. record {
       field = omega (arith, u.field);
       repetition = omega arith;
       component = omega arith;
       subcomponent = omega arith;
-      first-repetition = omega arith;
-      first-component = omega arith;
-      first-subcomponent = omega arith;
+      first_repetition = omega arith;
+      first_component = omega arith;
+      first_subcomponent = omega arith;
     }) (λ _.
     by_cond (λ (q : Place). Within q (i + 1)) (eqb x s.repetition) _ _ (λ _. record {
       field = omega (arith, u.field);
       repetition = omega (arith, u.repetition);
       component = omega arith;
       subcomponent = omega arith;
-      first-repetition = omega arith;
-      first-component = omega arith;
-      first-subcomponent = omega arith;
+      first_repetition = omega arith;
+      first_component = omega arith;
+      first_subcomponent = omega arith;
     }) (λ _.
     by_cond (λ (q : Place). Within q (i + 1)) (eqb x s.component) _ _ (λ _. record {
       field = omega (arith, u.field);
       repetition = omega (arith, u.repetition);
       component = omega (arith, u.component);
       subcomponent = omega arith;
-      first-repetition = u.first-repetition;
-      first-component = omega arith;
-      first-subcomponent = omega arith;
+      first_repetition = u.first_repetition;
+      first_component = omega arith;
+      first_subcomponent = omega arith;
     }) (λ _. record {
       field = omega (arith, u.field);
       repetition = omega (arith, u.repetition);
       component = omega (arith, u.component);
       subcomponent = omega (arith, u.subcomponent);
-      first-repetition = u.first-repetition;
-      first-component = u.first-component;
-      first-subcomponent = omega arith;
+      first_repetition = u.first_repetition;
+      first_component = u.first_component;
+      first_subcomponent = omega arith;
     })))
 
 -- ---- `leaves`, one byte or one leaf on
 module _ (s : Separators) (t : Text) where
   -- no delimiter at i
-  leaves-more : (p : Place) (w : Text) (i : ℕ) → i < length t → endsLeaf s (get_or t i 0) ≡ false
+  leaves_more : (p : Place) (w : Text) (i : ℕ) → i < length t → ends_leaf s (get_or t i 0) ≡ false
       → leaves s p w (drop i t) ≡ leaves s p (w ++ get_or t i 0 ∷ []) (drop (i + 1) t)
   unfolding leaves
-  leaves-more p w i h e = rw (drop-step t i h, e)
+  leaves_more p w i h e = rw (drop_step t i h, e)
 
   -- a delimiter at i
-  leaves-next : (p : Place) (w : Text) (i : ℕ) → i < length t → endsLeaf s (get_or t i 0) ≡ true
+  leaves_next : (p : Place) (w : Text) (i : ℕ) → i < length t → ends_leaf s (get_or t i 0) ≡ true
       → leaves s p w (drop i t) ≡ leaf p false (some w) ∷ leaves s (next s (get_or t i 0) p) [] (drop (i + 1) t)
   unfolding leaves
-  leaves-next p w i h e = rw (drop-step t i h, e)
+  leaves_next p w i h e = rw (drop_step t i h, e)
 
-  leaves-end : (p : Place) (w : Text) (i : ℕ) → length t ≤ i → leaves s p w (drop i t) ≡ leaf p false (some w) ∷ []
+  leaves_end : (p : Place) (w : Text) (i : ℕ) → length t ≤ i → leaves s p w (drop i t) ≡ leaf p false (some w) ∷ []
   unfolding leaves
-  leaves-end p w i h = rw (drop_of_length-le t {i = i} h)
+  leaves_end p w i h = rw (drop_of_length-le t {i = i} h)
 
-leaves-some : (s : Separators) (t w : Text) (p : Place) → 1 ≤ length (leaves s p w t)
+leaves_some : (s : Separators) (t w : Text) (p : Place) → 1 ≤ length (leaves s p w t)
 unfolding leaves
-leaves-some s [] w p = omega arith
-leaves-some s (x ∷ t) w p =
-    by_cond (λ (xs : List Leaf). 1 ≤ length xs) (endsLeaf s x) _ _ (λ _. omega arith) (λ _. leaves-some s t (w ++ x ∷ []) p)
+leaves_some s [] w p = omega arith
+leaves_some s (x ∷ t) w p =
+    by_cond (λ (xs : List Leaf). 1 ≤ length xs) (ends_leaf s x) _ _ (λ _. omega arith) (λ _. leaves_some s t (w ++ x ∷ []) p)
 
 -- ---- the leaf that begins at index i has come to index j
 pub record Running (s : Separators) (t : Text) (i j : ℕ) : Type 0 where
@@ -124,24 +124,24 @@ pub record Running (s : Separators) (t : Text) (i j : ℕ) : Type 0 where
   pub high : j ≤ length t
   pub runs : (p : Place) → leaves s p [] (drop i t) ≡ leaves s p (part t i (j - i)) (drop j t)
 
-pub running-start : (s : Separators) (t : Text) (i : ℕ) → i ≤ length t → Running s t i i
+pub running_start : (s : Separators) (t : Text) (i : ℕ) → i ≤ length t → Running s t i i
 unfolding part
-running-start s t i h = let z : i - i ≡ 0 = omega arith in record { low = omega arith; high = h; runs = λ p. rw z }
+running_start s t i h = let z : i - i ≡ 0 = omega arith in record { low = omega arith; high = h; runs = λ p. rw z }
 
-module _ {s : Separators} {t : Text} {i j : ℕ} (g : Running s t i j) {b : Bool} (q : b ≡ endsLeaf s (get_or t j 0)) where
+module _ {s : Separators} {t : Text} {i j : ℕ} (g : Running s t i j) {b : Bool} (q : b ≡ ends_leaf s (get_or t j 0)) where
   pub running_more : j < length t → b ≡ false → Running s t i (j + 1)
   running_more h e =
       let n : j + 1 - i ≡ j - i + 1 = omega (arith, g.low) in record {
         low = omega (arith, g.low);
         high = omega arith;
-        runs = λ p. g.runs p ∙ leaves-more s t p (part t i (j - i)) j h (sym q ∙ e) ∙ rw (n, part-more t i (j - i) j (omega (arith, g.low)) h);
+        runs = λ p. g.runs p ∙ leaves_more s t p (part t i (j - i)) j h (sym q ∙ e) ∙ rw (n, part_more t i (j - i) j (omega (arith, g.low)) h);
       }
 
-  pub running-stop : j < length t → b ≡ true → LeafEnd s t i j
-  running-stop h e = record { low = g.low; high = g.high; runs = g.runs; stops = λ _. sym q ∙ e }
+  pub running_stop : j < length t → b ≡ true → LeafEnd s t i j
+  running_stop h e = record { low = g.low; high = g.high; runs = g.runs; stops = λ _. sym q ∙ e }
 
-pub running-end : {s : Separators} {t : Text} {i j : ℕ} → Running s t i j → length t ≤ j → LeafEnd s t i j
-running-end g h = record { low = g.low; high = g.high; runs = g.runs; stops = λ k. absurd (omega arith) }
+pub running_end : {s : Separators} {t : Text} {i j : ℕ} → Running s t i j → length t ≤ j → LeafEnd s t i j
+running_end g h = record { low = g.low; high = g.high; runs = g.runs; stops = λ k. absurd (omega arith) }
 
 -- ---- the leaves from index `from` on, of which the rows n₀ to before n are read; the next one begins at index i and stands at p
 pub record Going (s : Separators) (t : Text) (from : ℕ) (p₀ : Place) (n₀ : ℕ) (cells₀ : List ℕ) (i n : ℕ) (p : Place) (cells : List ℕ) : Type 0 where
@@ -150,15 +150,15 @@ pub record Going (s : Separators) (t : Text) (from : ℕ) (p₀ : Place) (n₀ :
   pub inside : i ≤ length t
   pub ahead : n < i
   pub small : Within p i
-  pub whole : leaves s p₀ [] (drop from t) ≡ leavesFrom (λ i. false) cells t n₀ (n - n₀) ++ leaves s p [] (drop i t)
+  pub whole : leaves s p₀ [] (drop from t) ≡ leaves_from (λ i. false) cells t n₀ (n - n₀) ++ leaves s p [] (drop i t)
   pub ends : (j : ℕ) → n₀ ≤ j → j < n → cell cells j 1 + cell cells j 2 ≤ length t
-  pub within : (j : ℕ) → n₀ ≤ j → j < n → Within (placeAt cells j) (length t)
+  pub within : (j : ℕ) → n₀ ≤ j → j < n → Within (place_at cells j) (length t)
   pub before : (j k : ℕ) → k < 8 → j < n₀ → cell cells j k ≡ cell cells₀ j k
   pub long : length cells ≡ length cells₀
 
 module _ (s : Separators) (t : Text) (from : ℕ) (p₀ : Place) (n₀ : ℕ) (cells₀ : List ℕ) where
   pub going_start : from ≤ length t → n₀ ≤ LEAVES_MAX → n₀ < from → Within p₀ from → Going s t from p₀ n₀ cells₀ from n₀ p₀ cells₀
-  unfolding leavesFrom list_of
+  unfolding leaves_from list_of
   going_start h k a u =
       let z : n₀ - n₀ ≡ 0 = omega arith in record {
         low = omega arith;
@@ -174,12 +174,12 @@ module _ (s : Separators) (t : Text) (from : ℕ) (p₀ : Place) (n₀ : ℕ) (c
       }
 
 module _ {s : Separators} {t : Text} {from : ℕ} {p₀ : Place} {n₀ : ℕ} {cells₀ : List ℕ} {i n : ℕ} {p : Place} {cells : List ℕ} (go : Going s t from p₀ n₀ cells₀ i n p cells) where
-  pub going-full : n ≡ LEAVES_MAX → LeavesRead (leaves s p₀ [] (drop from t)) t (length t) n₀ cells₀ cells 4097
-  unfolding leavesFrom
-  going-full e = record {
+  pub going_full : n ≡ LEAVES_MAX → LeavesRead (leaves s p₀ [] (drop from t)) t (length t) n₀ cells₀ cells 4097
+  unfolding leaves_from
+  going_full e = record {
     fitted = λ h. absurd (omega (arith, h));
     few = λ h. absurd (omega (arith, h));
-    too_many = λ _. rw (go.whole, length-append, list_length) (omega (arith, leaves-some s (drop i t) [] p, go.low));
+    too_many = λ _. rw (go.whole, length-append, list_length) (omega (arith, leaves_some s (drop i t) [] p, go.low));
     most = omega arith;
     before = go.before;
   }
@@ -190,40 +190,40 @@ module _ {s : Separators} {t : Text} {from : ℕ} {p₀ : Place} {n₀ : ℕ} {c
     kept j k h l = put.other j k h (λ q. absurd (omega arith))
 
     -- one row more
-    rows_more : leavesFrom (λ i. false) cells' t n₀ (n + 1 - n₀) ≡ leavesFrom (λ i. false) cells t n₀ (n - n₀) ++ leaf p false (some (part t i (e - i))) ∷ []
+    rows_more : leaves_from (λ i. false) cells' t n₀ (n + 1 - n₀) ≡ leaves_from (λ i. false) cells t n₀ (n - n₀) ++ leaf p false (some (part t i (e - i))) ∷ []
     rows_more =
         let z : n + 1 - n₀ ≡ suc (n - n₀) = omega (arith, go.low) in
         let y : n₀ + (n - n₀) ≡ n = omega (arith, go.low) in
         rw z (snoc (n - n₀)
         ∙ ap₂ (λ (xs : List Leaf) (x : Leaf). xs ++ x ∷ []) (leaves_kept (λ i. false) cells cells' t n₀ (n - n₀) (λ j k h l. kept j k h (omega arith))) (rw y (put.here (λ i. false) t)))
       where
-        snoc : (m : ℕ) → leavesFrom (λ i. false) cells' t n₀ (suc m) ≡ leavesFrom (λ i. false) cells' t n₀ m ++ leafAt (λ i. false) cells' t (n₀ + m) ∷ []
-        snoc m = unfold leavesFrom in list-snoc (leafAt (λ i. false) cells' t) n₀ m
+        snoc : (m : ℕ) → leaves_from (λ i. false) cells' t n₀ (suc m) ≡ leaves_from (λ i. false) cells' t n₀ m ++ leaf_at (λ i. false) cells' t (n₀ + m) ∷ []
+        snoc m = unfold leaves_from in list_snoc (leaf_at (λ i. false) cells' t) n₀ m
 
     ends_more : (j : ℕ) → n₀ ≤ j → j < n + 1 → cell cells' j 1 + cell cells' j 2 ≤ length t
     ends_more j a c = dite (ℕ_discrete j n)
         (λ q. rw (q, put.begins, put.long) (omega (arith, end.low, end.high)))
         (λ ne. rw (kept j 1 (omega arith) (omega arith), kept j 2 (omega arith) (omega arith)) (go.ends j a (omega arith)))
 
-    within-rows : (j : ℕ) → n₀ ≤ j → j < n + 1 → Within (placeAt cells' j) (length t)
-    within-rows j a c = dite (ℕ_discrete j n)
+    within_rows : (j : ℕ) → n₀ ≤ j → j < n + 1 → Within (place_at cells' j) (length t)
+    within_rows j a c = dite (ℕ_discrete j n)
         (λ q. rw (q, put.place) (within_more p i (length t) go.inside go.small))
         (λ ne. rw (place_kept cells cells' j (λ k h. kept j k h (omega arith))) (go.within j a (omega arith)))
 
     before_more : (j k : ℕ) → k < 8 → j < n₀ → cell cells' j k ≡ cell cells₀ j k
     before_more j k h c = kept j k h (omega (arith, go.low)) ∙ go.before j k h c
 
-    pub going-last : n < LEAVES_MAX → e ≡ length t → LeavesRead (leaves s p₀ [] (drop from t)) t (length t) n₀ cells₀ cells' (n + 1)
-    unfolding leavesFrom
-    going-last m q =
-        let all : leaves s p₀ [] (drop from t) ≡ leavesFrom (λ i. false) cells' t n₀ (n + 1 - n₀) =
-        go.whole ∙ ap (λ (z : List Leaf). leavesFrom (λ i. false) cells t n₀ (n - n₀) ++ z) (end.runs p ∙ leaves-end s t p _ e (omega arith)) ∙ sym rows_more in
+    pub going_last : n < LEAVES_MAX → e ≡ length t → LeavesRead (leaves s p₀ [] (drop from t)) t (length t) n₀ cells₀ cells' (n + 1)
+    unfolding leaves_from
+    going_last m q =
+        let all : leaves s p₀ [] (drop from t) ≡ leaves_from (λ i. false) cells' t n₀ (n + 1 - n₀) =
+        go.whole ∙ ap (λ (z : List Leaf). leaves_from (λ i. false) cells t n₀ (n - n₀) ++ z) (end.runs p ∙ leaves_end s t p _ e (omega arith)) ∙ sym rows_more in
         record {
           fitted = λ _. record {
             count = rw (all, list_length) (omega (arith, go.low));
             are = sym all;
             ends = ends_more;
-            within = within-rows;
+            within = within_rows;
           };
           few = λ _. omega (arith, go.ahead, go.inside);
           too_many = λ h. absurd (omega arith);
@@ -237,29 +237,29 @@ module _ {s : Separators} {t : Text} {from : ℕ} {p₀ : Place} {n₀ : ℕ} {c
       high = omega arith;
       inside = omega arith;
       ahead = omega (arith, go.ahead, end.low);
-      small = rw np (within_more _ (i + 1) (e + 1) (omega (arith, end.low)) (within-next s (get_or t e 0) p i go.small));
-      whole = go.whole ∙ ap (λ (z : List Leaf). leavesFrom (λ i. false) cells t n₀ (n - n₀) ++ z) (end.runs p ∙ leaves-next s t p _ e q (end.stops q))
-          ∙ rw (np, rows_more) (sym (append_snoc (leavesFrom (λ i. false) cells t n₀ (n - n₀)) (leaf p false (some (part t i (e - i)))) (leaves s (next s (get_or t e 0) p) [] (drop (e + 1) t))));
+      small = rw np (within_more _ (i + 1) (e + 1) (omega (arith, end.low)) (within_next s (get_or t e 0) p i go.small));
+      whole = go.whole ∙ ap (λ (z : List Leaf). leaves_from (λ i. false) cells t n₀ (n - n₀) ++ z) (end.runs p ∙ leaves_next s t p _ e q (end.stops q))
+          ∙ rw (np, rows_more) (sym (append_snoc (leaves_from (λ i. false) cells t n₀ (n - n₀)) (leaf p false (some (part t i (e - i)))) (leaves s (next s (get_or t e 0) p) [] (drop (e + 1) t))));
       ends = ends_more;
-      within = within-rows;
+      within = within_rows;
       before = before_more;
       long = l ∙ go.long;
     }
 
 -- what was read from the front of a text stands in the text
-pub read-front : {xs : List Leaf} {t : Text} {e n : ℕ} {cells cells' : List ℕ} {r : ℕ} → e ≤ length t → LeavesRead xs (take e t) (length (take e t)) n cells cells' r → LeavesRead xs t e n cells cells' r
-unfolding leavesFrom leafAt storedText
-read-front {xs} {t} {e} {n} {cells} {cells'} {r} l g =
+pub read_front : {xs : List Leaf} {t : Text} {e n : ℕ} {cells cells' : List ℕ} {r : ℕ} → e ≤ length t → LeavesRead xs (take e t) (length (take e t)) n cells cells' r → LeavesRead xs t e n cells cells' r
+unfolding leaves_from leaf_at stored_text
+read_front {xs} {t} {e} {n} {cells} {cells'} {r} l g =
     let len : length (take e t) ≡ e = length-take-le e t l in
     record {
       fitted = λ f.
           let w = g.fitted f in
           record {
             count = w.count;
-            are = list_ext (leafAt (λ i. false) cells' t) (leafAt (λ i. false) cells' (take e t)) n (r - n) (λ i a b.
-                rw (part-take t e (cell cells' i 1) (cell cells' i 2) (omega (arith, w.ends i a (omega arith), len)))) ∙ w.are;
+            are = list_ext (leaf_at (λ i. false) cells' t) (leaf_at (λ i. false) cells' (take e t)) n (r - n) (λ i a b.
+                rw (part_take t e (cell cells' i 1) (cell cells' i 2) (omega (arith, w.ends i a (omega arith), len)))) ∙ w.are;
             ends = λ i a b. omega (arith, w.ends i a b, len);
-            within = λ i a b. within_more (placeAt cells' i) (length (take e t)) (length t) (omega (arith, len)) (w.within i a b);
+            within = λ i a b. within_more (place_at cells' i) (length (take e t)) (length t) (omega (arith, len)) (w.within i a b);
           };
       few = λ f. omega (arith, g.few f, len);
       too_many = g.too_many;

@@ -4,8 +4,8 @@ use Rattle.std.proofs.Math.Option.{some}
 use Rattle.text.specs.Text.{Text, part}
 use Rattle.er7.specs.declared.message.Place.{Place}
 use Rattle.er7.specs.declared.separators.Separators.{Separators}
-use Rattle.message_model.specs.Message.{Leaf, leaf, endsLeaf, leaves}
-use Rattle.er7_table.specs.Table.{cell, placeAt, leafAt, leavesFrom, Within, firstLeaf, label_at}
+use Rattle.message_model.specs.Message.{Leaf, leaf, ends_leaf, leaves}
+use Rattle.er7_table.specs.Table.{cell, place_at, leaf_at, leaves_from, Within, first_leaf, label_at}
 use Rattle.refusal.specs.Limits.{LEAVES_MAX}
 
 -- r is where the leaf of t that begins at index i ends
@@ -13,29 +13,29 @@ pub record LeafEnd (s : Separators) (t : Text) (i r : ℕ) : Type 0 where
   pub low : i ≤ r
   pub high : r ≤ length t
   pub runs : (p : Place) → leaves s p [] (drop i t) ≡ leaves s p (part t i (r - i)) (drop r t)
-  pub stops : r < length t → endsLeaf s (get_or t r 0) ≡ true
+  pub stops : r < length t → ends_leaf s (get_or t r 0) ≡ true
 
 -- row i became the leaf at p whose text is n bytes of the store from index `start` on; no other row changed
 pub record LeafPut (cells : List ℕ) (i : ℕ) (p : Place) (start n : ℕ) (cells' : List ℕ) : Type 0 where
   pub begins : cell cells' i 1 ≡ start
   pub long : cell cells' i 2 ≡ n
-  pub place : placeAt cells' i ≡ p
-  pub here : (named : ℕ → Bool) (store : Text) → leafAt named cells' store i ≡ leaf p (named i) (some (part store start n))
+  pub place : place_at cells' i ≡ p
+  pub here : (named : ℕ → Bool) (store : Text) → leaf_at named cells' store i ≡ leaf p (named i) (some (part store start n))
   pub other : (j k : ℕ) → k < 8 → (j ≡ i → ⊥) → cell cells' j k ≡ cell cells j k
 
 -- row k became a segment, whose leaves begin at `first` and end before `end`; no row before it changed
 pub record SegmentPut (segs : List ℕ) (k first a b c occurrence end : ℕ) (segs' : List ℕ) : Type 0 where
   pub label : label_at segs' k ≡ record { name = a ∷ b ∷ c ∷ []; occurrence = occurrence }
-  pub begins : firstLeaf segs' k ≡ first
-  pub ends : firstLeaf segs' (k + 1) ≡ end
+  pub begins : first_leaf segs' k ≡ first
+  pub ends : first_leaf segs' (k + 1) ≡ end
   pub other : (i j : ℕ) → j < 8 → i < k → cell segs' i j ≡ cell segs i j
 
 -- the rows from n to before r are the leaves xs, whose texts stand in t
 pub record Filled (xs : List Leaf) (t : Text) (n : ℕ) (cells' : List ℕ) (r : ℕ) : Type 0 where
   pub count : r ≡ n + length xs
-  pub are : leavesFrom (λ i. false) cells' t n (r - n) ≡ xs
+  pub are : leaves_from (λ i. false) cells' t n (r - n) ≡ xs
   pub ends : (i : ℕ) → n ≤ i → i < r → cell cells' i 1 + cell cells' i 2 ≤ length t
-  pub within : (i : ℕ) → n ≤ i → i < r → Within (placeAt cells' i) (length t)
+  pub within : (i : ℕ) → n ≤ i → i < r → Within (place_at cells' i) (length t)
 
 -- the table has a row for each of 4096 leaves, or for as many as m bytes can have
 pub record LeafRoom (cells : List ℕ) (m : ℕ) : Type 0 where

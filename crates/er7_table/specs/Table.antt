@@ -17,19 +17,19 @@ list_of f i (suc n) = f i ∷ list_of f (suc i) n
 
 -- ---- the table of leaves: start and length of the leaf's text in the store, 1 if the leaf has vanished, and the four numbers of its place
 
-unfoldable pub placeAt : List ℕ → ℕ → Place
-placeAt cells i = record { field = cell cells i 4; repetition = cell cells i 5; component = cell cells i 6; subcomponent = cell cells i 7 }
+unfoldable pub place_at : List ℕ → ℕ → Place
+place_at cells i = record { field = cell cells i 4; repetition = cell cells i 5; component = cell cells i 6; subcomponent = cell cells i 7 }
 
-unfoldable pub storedText : List ℕ → Text → ℕ → Option Text
-storedText cells store i = cond (eqb (cell cells i 3) 0) (some (part store (cell cells i 1) (cell cells i 2))) none
+unfoldable pub stored_text : List ℕ → Text → ℕ → Option Text
+stored_text cells store i = cond (eqb (cell cells i 3) 0) (some (part store (cell cells i 1) (cell cells i 2))) none
 
 -- leaf i; `named` says which leaves a rule named
-unfoldable pub leafAt : (ℕ → Bool) → List ℕ → Text → ℕ → Leaf
-leafAt named cells store i = leaf (placeAt cells i) (named i) (storedText cells store i)
+unfoldable pub leaf_at : (ℕ → Bool) → List ℕ → Text → ℕ → Leaf
+leaf_at named cells store i = leaf (place_at cells i) (named i) (stored_text cells store i)
 
 -- n leaves from leaf i on
-unfoldable pub leavesFrom : (ℕ → Bool) → List ℕ → Text → ℕ → ℕ → List Leaf
-leavesFrom named cells store i n = list_of (leafAt named cells store) i n
+unfoldable pub leaves_from : (ℕ → Bool) → List ℕ → Text → ℕ → ℕ → List Leaf
+leaves_from named cells store i n = list_of (leaf_at named cells store) i n
 
 -- the texts of n leaves end in the store at or before `used`
 pub record Good (cells : List ℕ) (store : Text) (n used : ℕ) : Type 0 where
@@ -43,19 +43,19 @@ pub record Within (p : Place) (m : ℕ) : Type 0 where
   pub repetition : p.repetition ≤ m
   pub component : p.component ≤ m
   pub subcomponent : p.subcomponent ≤ m
-  pub first-repetition : 1 ≤ p.repetition
-  pub first-component : 1 ≤ p.component
-  pub first-subcomponent : 1 ≤ p.subcomponent
+  pub first_repetition : 1 ≤ p.repetition
+  pub first_component : 1 ≤ p.component
+  pub first_subcomponent : 1 ≤ p.subcomponent
 
 -- so are those of n leaves
 pub record Placed (cells : List ℕ) (n m : ℕ) : Type 0 where
-  pub within : (i : ℕ) → i < n → Within (placeAt cells i) m
+  pub within : (i : ℕ) → i < n → Within (place_at cells i) m
 
 -- ---- the table of segments: the first leaf, the three bytes of the name, and the occurrence.
 -- A row behind the last holds the number of leaves as its first leaf, so that a segment ends where the next row begins
 
-unfoldable pub firstLeaf : List ℕ → ℕ → ℕ
-firstLeaf segs k = cell segs k 1
+unfoldable pub first_leaf : List ℕ → ℕ → ℕ
+first_leaf segs k = cell segs k 1
 
 unfoldable pub name_at : List ℕ → ℕ → Text
 name_at segs k = cell segs k 2 ∷ cell segs k 3 ∷ cell segs k 4 ∷ []
@@ -64,8 +64,8 @@ unfoldable pub label_at : List ℕ → ℕ → Label
 label_at segs k = record { name = name_at segs k; occurrence = cell segs k 5 }
 
 -- the label that a struct stands for: its name is three bytes
-unfoldable pub asLabel : HeldLabel → Label
-asLabel g = record { name = g.a ∷ g.b ∷ g.c ∷ []; occurrence = g.occurrence }
+unfoldable pub as_label : HeldLabel → Label
+as_label g = record { name = g.a ∷ g.b ∷ g.c ∷ []; occurrence = g.occurrence }
 
 -- the name of segment k is three bytes
 pub record BytesNamed (segs : List ℕ) (k : ℕ) : Type 0 where
@@ -77,17 +77,17 @@ pub record BytesNamed (segs : List ℕ) (k : ℕ) : Type 0 where
 pub record AllNamed (segs : List ℕ) (m : ℕ) : Type 0 where
   pub named : (k : ℕ) → k < m → BytesNamed segs k
 
-unfoldable pub segmentAt : (ℕ → Bool) → List ℕ → List ℕ → Text → ℕ → Segment
-segmentAt named segs cells store k =
-    segment (label_at segs k) (leavesFrom named cells store (firstLeaf segs k) (firstLeaf segs (k + 1) - firstLeaf segs k))
+unfoldable pub segment_at : (ℕ → Bool) → List ℕ → List ℕ → Text → ℕ → Segment
+segment_at named segs cells store k =
+    segment (label_at segs k) (leaves_from named cells store (first_leaf segs k) (first_leaf segs (k + 1) - first_leaf segs k))
 
 -- m segments from segment k on
-unfoldable pub segmentsFrom : (ℕ → Bool) → List ℕ → List ℕ → Text → ℕ → ℕ → List Segment
-segmentsFrom named segs cells store k m = list_of (segmentAt named segs cells store) k m
+unfoldable pub segments_from : (ℕ → Bool) → List ℕ → List ℕ → Text → ℕ → ℕ → List Segment
+segments_from named segs cells store k m = list_of (segment_at named segs cells store) k m
 
 -- m segments hold n leaves, each segment's behind those of the one before it; the table has 257 rows
 pub record Segmented (segs : List ℕ) (m n : ℕ) : Type 0 where
   pub rows : m * 8 + 8 ≤ 2056
-  pub none_before : firstLeaf segs 0 ≡ 0
-  pub order : (i j : ℕ) → i ≤ j → j ≤ m → firstLeaf segs i ≤ firstLeaf segs j
-  pub all : firstLeaf segs m ≡ n
+  pub none_before : first_leaf segs 0 ≡ 0
+  pub order : (i j : ℕ) → i ≤ j → j ≤ m → first_leaf segs i ≤ first_leaf segs j
+  pub all : first_leaf segs m ≡ n

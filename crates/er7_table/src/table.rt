@@ -3,7 +3,7 @@
 // A segment: its first leaf, the three bytes of its name, and its occurrence. The row behind the last holds the number of leaves in the place of a first leaf.
 ghost use Rattle.std.specs.Prelude.{◌≡◌, [], ◌∷◌, ◌+◌, ◌-◌, ◌*◌, ◌^◌, ◌≤◌, ◌<◌, length, drop};
 ghost use Rattle.message_model.specs.Message as Message;
-ghost use Rattle.er7_table.specs.Table.{placeAt, Within, label_at, asLabel, BytesNamed};
+ghost use Rattle.er7_table.specs.Table.{place_at, Within, label_at, as_label, BytesNamed};
 ghost use Rattle.er7_table.specs.Filling.{LeafEnd, LeafPut, SegmentPut, LeafRoom, LeavesRead};
 ghost use Rattle.refusal.specs.Limits.{LEAVES_MAX};
 
@@ -13,14 +13,14 @@ use refusal::limits::LEAVES_MAX;
 
 // Whether b ends a leaf.
 pub fn ends_leaf(s: Separators, b: u8) -> bool
-    ensures { result ≡ Message.endsLeaf s b }
+    ensures { result ≡ Message.ends_leaf s b }
 {
     (b == s.field) | (b == s.repetition) | (b == s.component) | (b == s.subcomponent)
 }
 
 // Whether three bytes are the name of a header.
 pub fn is_header_name(a: u8, b: u8, c: u8) -> bool
-    ensures { result ≡ Message.isHeaderName (a ∷ b ∷ c ∷ []) }
+    ensures { result ≡ Message.is_header_name (a ∷ b ∷ c ∷ []) }
 {
     let msh = (a == b'M') & ((b == b'S') & (c == b'H'));
     let fhs = (a == b'F') & ((b == b'H') & (c == b'S'));
@@ -42,7 +42,7 @@ fn place_of(field: usize, repetition: usize, component: usize, subcomponent: usi
 
 // The first place of field n.
 pub fn at_field(n: usize) -> Place
-    ensures { result ≡ Message.atField n }
+    ensures { result ≡ Message.at_field n }
 {
     place_of(n, 1, 1, 1)
 }
@@ -67,7 +67,7 @@ pub fn next(s: Separators, b: u8, p: Place) -> Place
 // The place of leaf i.
 pub fn place_at(cells: &[usize], i: usize) -> Place
     requires { i * 8 + 8 ≤ length cells.now }
-    ensures { result ≡ placeAt cells.now i }
+    ensures { result ≡ place_at cells.now i }
 {
     let at = i * 8;
     Place {
@@ -81,7 +81,7 @@ pub fn place_at(cells: &[usize], i: usize) -> Place
 // The label of segment k.
 pub fn label_at(segs: &[usize; 2056], k: usize) -> Label
     requires { BytesNamed segs.now k × (k * 8 + 8 ≤ 2056) }
-    ensures { asLabel result ≡ label_at segs.now k }
+    ensures { as_label result ≡ label_at segs.now k }
 {
     let at = k * 8;
     Label {

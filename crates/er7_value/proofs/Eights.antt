@@ -8,17 +8,17 @@ use lib.Dec.{eqb}
 use lib.ListN.{length, take, drop, get_or}
 use lib.Seq.{take_all, take-take, take-add, drop-drop}
 use Rattle.text.specs.Text.{Text, same, begins, part}
-use Rattle.text.proofs.Laws.{and-id}
-use Rattle.text.proofs.Runs.{drop-step, part-more}
-use Rattle.text.proofs.Kept.{part-take, part_length}
-use Rattle.text.proofs.Words.{same_refl, same-eq}
+use Rattle.text.proofs.Laws.{and_id}
+use Rattle.text.proofs.Runs.{drop_step, part_more}
+use Rattle.text.proofs.Kept.{part_take, part_length}
+use Rattle.text.proofs.Words.{same_refl, same_eq}
 
 -- ---- eight bytes
 
 -- one byte more on both sides
 same_more : (s t : Text) (x y : ℕ) → length s ≡ length t → same (s ++ x ∷ []) (t ++ y ∷ []) ≡ same s t && eqb x y
 unfolding same
-same_more [] [] x y h = and-id (eqb x y)
+same_more [] [] x y h = and_id (eqb x y)
 same_more [] (b ∷ t) x y h = absurd (omega arith)
 same_more (a ∷ s) [] x y h = absurd (omega arith)
 same_more (a ∷ s) (b ∷ t) x y h = rw (same_more s t x y (omega arith)) (sym (and_assoc (eqb a b) (same s t) (eqb x y)))
@@ -29,29 +29,29 @@ pub record Matching (v : Text) (j : ℕ) (t : Text) (k n : ℕ) (alike : Bool) :
   pub is : alike ≡ same (part v j n) (part t k n)
 
 module _ (v : Text) (j : ℕ) (t : Text) (k : ℕ) where
-  pub matching-start : Matching v j t k 0 true
+  pub matching_start : Matching v j t k 0 true
   unfolding part same
-  matching-start = record { few = omega arith; is = refl }
+  matching_start = record { few = omega arith; is = refl }
 
   module _ (in-v : j + 8 ≤ length v) (in-t : k + 8 ≤ length t) where
-    pub matching-more : {n : ℕ} {alike : Bool} → Matching v j t k n alike → n < 8
+    pub matching_more : {n : ℕ} {alike : Bool} → Matching v j t k n alike → n < 8
         → Matching v j t k (n + 1) (alike && eqb (get_or v (j + n) 0) (get_or t (k + n) 0))
-    matching-more {n} {alike} g h =
+    matching_more {n} {alike} g h =
         record {
           few = omega arith;
-          is = rw (part-more v j n (j + n) refl (omega arith), part-more t k n (k + n) refl (omega arith)) (ap (λ (b : Bool). b && eqb (get_or v (j + n) 0) (get_or t (k + n) 0)) g.is
+          is = rw (part_more v j n (j + n) refl (omega arith), part_more t k n (k + n) refl (omega arith)) (ap (λ (b : Bool). b && eqb (get_or v (j + n) 0) (get_or t (k + n) 0)) g.is
               ∙ sym (same_more (part v j n) (part t k n) _ _ (part_length v j n (omega arith) ∙ sym (part_length t k n (omega arith)))));
         }
 
-  pub matching-end : {n : ℕ} {alike : Bool} → Matching v j t k n alike → 8 ≤ n → alike ≡ same (part v j 8) (part t k 8)
-  matching-end {n} {alike} g h = let e : n ≡ 8 = omega (arith, g.few) in g.is ∙ ap (λ (n : ℕ). same (part v j n) (part t k n)) e
+  pub matching_end : {n : ℕ} {alike : Bool} → Matching v j t k n alike → 8 ≤ n → alike ≡ same (part v j 8) (part t k 8)
+  matching_end {n} {alike} g h = let e : n ≡ 8 = omega (arith, g.few) in g.is ∙ ap (λ (n : ℕ). same (part v j n) (part t k n)) e
 
 -- ---- all of a value
 
 -- a text begins with v if v is what it begins with
-begins-itself : (v s : Text) → v ≡ take (length v) s → begins v s ≡ true
+begins_itself : (v s : Text) → v ≡ take (length v) s → begins v s ≡ true
 unfolding begins
-begins-itself v s e = ap (same v) (sym e) ∙ same_refl v
+begins_itself v s e = ap (same v) (sym e) ∙ same_refl v
 
 -- the first j bytes of v stand in t from index i on
 pub record Standing (v t : Text) (i j : ℕ) : Type 0 where
@@ -59,55 +59,55 @@ pub record Standing (v t : Text) (i j : ℕ) : Type 0 where
   pub is : take j v ≡ part t i j
 
 module _ (v t : Text) (i : ℕ) where
-  pub standing-start : Standing v t i 0
+  pub standing_start : Standing v t i 0
   unfolding part
-  standing-start = record { high = omega arith; is = refl }
+  standing_start = record { high = omega arith; is = refl }
 
   -- eight bytes more
-  eight-more : (j : ℕ) → same (part v j 8) (part t (i + j) 8) ≡ true → {k : ℕ} → take j v ≡ part t i j → k ≡ j + 8 → take k v ≡ part t i k
+  eight_more : (j : ℕ) → same (part v j 8) (part t (i + j) 8) ≡ true → {k : ℕ} → take j v ≡ part t i j → k ≡ j + 8 → take k v ≡ part t i k
   unfolding part
-  eight-more j e f q =
-      rw (q, take-add j 8 v, take-add j 8 (drop i t), drop-drop j i t, f, same-eq (part v j 8) (part t (i + j) 8) e)
+  eight_more j e f q =
+      rw (q, take-add j 8 v, take-add j 8 (drop i t), drop-drop j i t, f, same_eq (part v j 8) (part t (i + j) 8) e)
 
-  pub standing-more : {j : ℕ} → Standing v t i j → j + 8 ≤ length v → true ≡ same (part v j 8) (part t (i + j) 8) → Standing v t i (j + 8)
-  standing-more {j} g h e = record { high = h; is = eight-more j (sym e) g.is refl }
+  pub standing_more : {j : ℕ} → Standing v t i j → j + 8 ≤ length v → true ≡ same (part v j 8) (part t (i + j) 8) → Standing v t i (j + 8)
+  standing_more {j} g h e = record { high = h; is = eight_more j (sym e) g.is refl }
 
-  pub eight-differ : (j : ℕ) → j + 8 ≤ length v → false ≡ same (part v j 8) (part t (i + j) 8) → false ≡ begins v (drop i t)
+  pub eight_differ : (j : ℕ) → j + 8 ≤ length v → false ≡ same (part v j 8) (part t (i + j) 8) → false ≡ begins v (drop i t)
   unfolding begins part
-  eight-differ j h e = sym (by-same (same v (take (length v) (drop i t))) refl)
+  eight_differ j h e = sym (by_same (same v (take (length v) (drop i t))) refl)
     where
-      by-same : (b : Bool) → same v (take (length v) (drop i t)) ≡ b → b ≡ false
-      by-same false q = refl
-      by-same true q =
+      by_same : (b : Bool) → same v (take (length v) (drop i t)) ≡ b → b ≡ false
+      by_same false q = refl
+      by_same true q =
           let s = take (length v) (drop i t) in
-          let w : part v j 8 ≡ part t (i + j) 8 = ap (λ (s : Text). part s j 8) (same-eq v s q) ∙ part-take (drop i t) (length v) j 8 h ∙ ap (take 8) (drop-drop j i t) in
+          let w : part v j 8 ≡ part t (i + j) 8 = ap (λ (s : Text). part s j 8) (same_eq v s q) ∙ part_take (drop i t) (length v) j 8 h ∙ ap (take 8) (drop-drop j i t) in
           sym (same_refl (part t (i + j) 8)) ∙ ap (λ (s : Text). same s (part t (i + j) 8)) (sym w) ∙ sym e
 
   -- the last eight bytes, some of them compared before
-  pub standing-end : {last j : ℕ} {b : Bool} → Standing v t i j → 8 ≤ length v → last ≡ length v - 8 → last ≤ j
+  pub standing_end : {last j : ℕ} {b : Bool} → Standing v t i j → 8 ≤ length v → last ≡ length v - 8 → last ≤ j
       → b ≡ same (part v last 8) (part t (i + last) 8) → b ≡ begins v (drop i t)
   unfolding part
-  standing-end {last = last} {b = false} g h n l e = eight-differ last (omega arith) e
-  standing-end {last = last} {j = j} {b = true} g h n l e =
+  standing_end {last = last} {b = false} g h n l e = eight_differ last (omega arith) e
+  standing_end {last = last} {j = j} {b = true} g h n l e =
       let f : take last v ≡ part t i last = sym (take-take last j v l) ∙ ap (take last) g.is ∙ take-take last j (drop i t) l in
       let k : length v ≡ last + 8 = omega arith in
-      sym (begins-itself v (drop i t) (sym (take_all (length v) v (omega arith)) ∙ eight-more last (sym e) f k))
+      sym (begins_itself v (drop i t) (sym (take_all (length v) v (omega arith)) ∙ eight_more last (sym e) f k))
 
 -- ---- the first byte
 
-pub first-none : (v s : Text) → length v ≡ 0 → true ≡ begins (take 1 v) s
+pub first_none : (v s : Text) → length v ≡ 0 → true ≡ begins (take 1 v) s
 unfolding begins same
-first-none [] s h = refl
-first-none (x ∷ v) s h = absurd (omega arith)
+first_none [] s h = refl
+first_none (x ∷ v) s h = absurd (omega arith)
 
 pub first_byte : (v t : Text) (i : ℕ) → 0 < length v → i < length t → eqb (get_or v 0 0) (get_or t i 0) ≡ begins (take 1 v) (drop i t)
 unfolding begins same
 first_byte [] t i h l = absurd (omega arith)
-first_byte (x ∷ v) t i h l = rw (drop-step t i l) (sym (and-id (eqb x (get_or t i 0))))
+first_byte (x ∷ v) t i h l = rw (drop_step t i l) (sym (and_id (eqb x (get_or t i 0))))
 
 -- where the first byte differs, v does not stand
-pub first-differs : (v s : Text) → begins (take 1 v) s ≡ false → begins v s ≡ false
+pub first_differs : (v s : Text) → begins (take 1 v) s ≡ false → begins v s ≡ false
 unfolding begins same
-first-differs [] s e = e
-first-differs (x ∷ v) [] e = refl
-first-differs (x ∷ v) (y ∷ s) e = let f : eqb x y ≡ false = sym (and-id (eqb x y)) ∙ e in rw f
+first_differs [] s e = e
+first_differs (x ∷ v) [] e = refl
+first_differs (x ∷ v) (y ∷ s) e = let f : eqb x y ≡ false = sym (and_id (eqb x y)) ∙ e in rw f

@@ -6,29 +6,29 @@ use native.Mathlib.Nat.{sub_self}
 use native.Mathlib.Omega.{arith}
 use lib.ListN.{length, take, drop, get_or, set, length-append, length-take, length-set}
 use lib.Seq.{take_at, drop_at, get_or_at, length-take-le}
-use Rattle.text.specs.Text.{Text, lowerByte, lower, part, between, put, Wrote}
-use Rattle.text.proofs.Kept.{wrote-between}
-use Rattle.text.proofs.Runs.{drop-step, part-more}
-use Rattle.text.proofs.Writes.{wrote_none, wrote-byte, wrote_then}
+use Rattle.text.specs.Text.{Text, lower_byte, lower, part, between, put, Wrote}
+use Rattle.text.proofs.Kept.{wrote_between}
+use Rattle.text.proofs.Runs.{drop_step, part_more}
+use Rattle.text.proofs.Writes.{wrote_none, wrote_byte, wrote_then}
 
-lower-append : (s t : Text) → lower (s ++ t) ≡ lower s ++ lower t
+lower_append : (s t : Text) → lower (s ++ t) ≡ lower s ++ lower t
 unfolding lower
-lower-append [] t = refl
-lower-append (x ∷ s) t = ap (λ (l : Text). lowerByte x ∷ l) (lower-append s t)
+lower_append [] t = refl
+lower_append (x ∷ s) t = ap (λ (l : Text). lower_byte x ∷ l) (lower_append s t)
 
 -- what stands behind what was written, and what was written
 module _ {d d' w : Text} {at e : ℕ} (p : Wrote d at w d' e) where
   front_length : length (take at d ++ w) ≡ e
   front_length = simp (length-append, length-take) (omega (arith, p.end, p.high))
 
-  pub behind-kept : e < length d → get_or d' e 0 ≡ get_or d e 0
+  pub behind_kept : e < length d → get_or d' e 0 ≡ get_or d e 0
   unfolding put
-  behind-kept h = rw (p.text, ← p.end, drop-step d e h) (get_or_at (take at d ++ w) (get_or d e 0) (drop (e + 1) d) 0 e front_length)
+  behind_kept h = rw (p.text, ← p.end, drop_step d e h) (get_or_at (take at d ++ w) (get_or d e 0) (drop (e + 1) d) 0 e front_length)
 
   -- a second text of the same length in the place of the first
-  pub wrote-over : {d'' v : Text} → Wrote d' at v d'' e → Wrote d at v d'' e
+  pub wrote_over : {d'' v : Text} → Wrote d' at v d'' e → Wrote d at v d'' e
   unfolding put
-  wrote-over {d''} {v} q = record {
+  wrote_over {d''} {v} q = record {
     end = q.end;
     high = p.high;
     text = q.text
@@ -41,26 +41,26 @@ pub record Lowering (d₀ : Text) (i j : ℕ) (d : Text) : Type 0 where
   pub long : length d ≡ length d₀
   pub wrote : Wrote d₀ i (lower (part d₀ i (j - i))) d j
 
-pub lowering-start : (d : Text) (i : ℕ) → i ≤ length d → Lowering d i i d
+pub lowering_start : (d : Text) (i : ℕ) → i ≤ length d → Lowering d i i d
 unfolding part lower
-lowering-start d i h = record { low = omega arith; long = refl; wrote = rw (sub_self i) (wrote_none d i h) }
+lowering_start d i h = record { low = omega arith; long = refl; wrote = rw (sub_self i) (wrote_none d i h) }
 
-pub lowering-more : {d₀ d : Text} {i j b : ℕ} → Lowering d₀ i j d → j < length d₀ → b ≡ lowerByte (get_or d j 0) → Lowering d₀ i (j + 1) (set d j b)
+pub lowering_more : {d₀ d : Text} {i j b : ℕ} → Lowering d₀ i j d → j < length d₀ → b ≡ lower_byte (get_or d j 0) → Lowering d₀ i (j + 1) (set d j b)
 unfolding lower
-lowering-more {d₀} {d} {i} {j} {b} g h e =
+lowering_more {d₀} {d} {i} {j} {b} g h e =
     let n : j + 1 - i ≡ j - i + 1 = omega (arith, g.low) in
-    let x : b ≡ lowerByte (get_or d₀ j 0) = e ∙ ap lowerByte (behind-kept g.wrote h) in record {
+    let x : b ≡ lower_byte (get_or d₀ j 0) = e ∙ ap lower_byte (behind_kept g.wrote h) in record {
       low = omega (arith, g.low);
       long = length-set d j b ∙ g.long;
       wrote =
-          rw (n, part-more d₀ i (j - i) j (omega (arith, g.low)) h, lower-append (part d₀ i (j - i)) (get_or d₀ j 0 ∷ []), ← x)
-          (wrote_then g.wrote (wrote-byte d j b (omega (arith, g.long))));
+          rw (n, part_more d₀ i (j - i) j (omega (arith, g.low)) h, lower_append (part d₀ i (j - i)) (get_or d₀ j 0 ∷ []), ← x)
+          (wrote_then g.wrote (wrote_byte d j b (omega (arith, g.long))));
     }
 
-pub lowering-end : {d₀ d : Text} {i j : ℕ} (e : ℕ) → Lowering d₀ i j d → j ≡ e → Wrote d₀ i (lower (part d₀ i (e - i))) d e
-lowering-end {d₀} {d} {i} {j} e g q = rw (← q) g.wrote
+pub lowering_end : {d₀ d : Text} {i j : ℕ} (e : ℕ) → Lowering d₀ i j d → j ≡ e → Wrote d₀ i (lower (part d₀ i (e - i))) d e
+lowering_end {d₀} {d} {i} {j} e g q = rw (← q) g.wrote
 
 -- what was written, in lower case
-pub wrote-lower : {d d₁ d₂ v : Text} {at e : ℕ} → Wrote d at v d₁ e → Wrote d₁ at (lower (part d₁ at (e - at))) d₂ e → Wrote d at (lower v) d₂ e
+pub wrote_lower : {d d₁ d₂ v : Text} {at e : ℕ} → Wrote d at v d₁ e → Wrote d₁ at (lower (part d₁ at (e - at))) d₂ e → Wrote d at (lower v) d₂ e
 unfolding between part
-wrote-lower {d} {d₁} {d₂} {v} {at} {e} p q = wrote-over p (rw (← wrote-between p) q)
+wrote_lower {d} {d₁} {d₂} {v} {at} {e} p q = wrote_over p (rw (← wrote_between p) q)

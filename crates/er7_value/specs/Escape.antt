@@ -7,11 +7,11 @@ use Rattle.er7_value.specs.declared.escape.Letter.{Letter}
 use Rattle.er7_value.specs.declared.escape.Letter.TheVariants.{Of, NoDelimiter}
 
 -- the enum for the delimiter that a letter names
-unfoldable pub heldDelimiter : Option ℕ → Delimiter
-heldDelimiter none = Unnamed
-heldDelimiter (some b) = Is b
+unfoldable pub held_delimiter : Option ℕ → Delimiter
+held_delimiter none = Unnamed
+held_delimiter (some b) = Is b
 
 -- the enum for the letter that names a delimiter
-unfoldable pub heldLetter : Option ℕ → Letter
-heldLetter none = NoDelimiter
-heldLetter (some l) = Of l
+unfoldable pub held_letter : Option ℕ → Letter
+held_letter none = NoDelimiter
+held_letter (some l) = Of l

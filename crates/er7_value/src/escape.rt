@@ -1,9 +1,9 @@
 // Escapes: the value of a leaf's text, and the text of a value.
 ghost use Rattle.std.specs.Prelude.{◌≡◌, [], ◌∷◌, ◌++◌, ◌+◌, ◌*◌, ◌^◌, ◌≤◌, ◌<◌, length};
 ghost use Rattle.text.specs.Text.{Wrote};
-ghost use Rattle.message_model.specs.Value.{is_null, isEmptyOrNull, delimiterOf, letterRun, pair, letterOf, encodeByte};
+ghost use Rattle.message_model.specs.Value.{is_null, is_empty_or_null, delimiter_of, letter_run, pair, letter_of, encode_byte};
 ghost use Rattle.message_model.specs.Value as Spec;
-ghost use Rattle.er7_value.specs.Escape.{heldDelimiter, heldLetter};
+ghost use Rattle.er7_value.specs.Escape.{held_delimiter, held_letter};
 
 use er7::separators::Separators;
 use text::bytes::{Class, byte_at, copy_at, run_end, same_bytes};
@@ -31,7 +31,7 @@ pub fn is_null(t: &[u8]) -> bool
 
 // Whether the text of a leaf is empty or null.
 pub fn is_empty_or_null(t: &[u8]) -> bool
-    ensures { result ≡ isEmptyOrNull t.now }
+    ensures { result ≡ is_empty_or_null t.now }
 {
     if t.len() == 0 {
         return true;
@@ -41,7 +41,7 @@ pub fn is_empty_or_null(t: &[u8]) -> bool
 
 // The delimiter that the letter l names.
 pub fn delimiter_of(s: Separators, l: u8) -> Delimiter
-    ensures { result ≡ heldDelimiter (delimiterOf s l) }
+    ensures { result ≡ held_delimiter (delimiter_of s l) }
 {
     match l {
         b'F' => Delimiter::Is(s.field),
@@ -55,7 +55,7 @@ pub fn delimiter_of(s: Separators, l: u8) -> Delimiter
 
 // The letter that names the delimiter b.
 pub fn letter_of(s: Separators, b: u8) -> Letter
-    ensures { result ≡ heldLetter (letterOf s b) }
+    ensures { result ≡ held_letter (letter_of s b) }
 {
     if b == s.field {
         return Letter::Of(b'F');
@@ -98,7 +98,7 @@ fn put_itself(w: &[u8], escape: u8, out: &mut [u8], at: usize) -> usize
 // Writes what a pair with the byte l between its two stands for to out from index at on, and returns the index behind it.
 fn put_letter(l: u8, s: Separators, out: &mut [u8], at: usize) -> usize
     requires { at + 3 ≤ length out.old }
-    ensures { Wrote out.old at (letterRun s l (delimiterOf s l)) out.new result }
+    ensures { Wrote out.old at (letter_run s l (delimiter_of s l)) out.new result }
 {
     match delimiter_of(s, l) {
         Delimiter::Is(b) => byte_at(out, at, b),
@@ -155,7 +155,7 @@ pub fn value(text: &[u8], s: Separators, out: &mut [u8], at: usize) -> usize
 
 // The length of what stands for the byte b of a value.
 fn byte_len(s: Separators, b: u8) -> usize
-    ensures { (result ≡ length (encodeByte s b (letterOf s b))) × (result ≤ 3) }
+    ensures { (result ≡ length (encode_byte s b (letter_of s b))) × (result ≤ 3) }
 {
     if (b == s.field)
         | (b == s.component)
@@ -184,8 +184,8 @@ pub fn encoded_len(v: &[u8], s: Separators) -> usize
 
 // Writes what stands for the byte b of a value to out from index at on, and returns the index behind it.
 fn put_byte(b: u8, s: Separators, out: &mut [u8], at: usize) -> usize
-    requires { at + length (encodeByte s b (letterOf s b)) ≤ length out.old }
-    ensures { Wrote out.old at (encodeByte s b (letterOf s b)) out.new result }
+    requires { at + length (encode_byte s b (letter_of s b)) ≤ length out.old }
+    ensures { Wrote out.old at (encode_byte s b (letter_of s b)) out.new result }
 {
     match letter_of(s, b) {
         Letter::Of(l) => put_run(l, s.escape, out, at),

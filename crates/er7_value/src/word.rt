@@ -1,9 +1,9 @@
 // Words: values in lower case, and a value as a whole word of another.
 ghost use Rattle.std.specs.Prelude.{◌≡◌, [], ◌+◌, ◌-◌, ◌≤◌, length, take, drop};
 ghost use Rattle.text.specs.Text.{Wrote, lower, part, begins, same};
-ghost use Rattle.message_model.specs.Value.{endsWord, isHit, isWholeWord};
+ghost use Rattle.message_model.specs.Value.{ends_word, is_hit, is_whole_word};
 ghost use Rattle.message_model.specs.Value as Spec;
-ghost use Rattle.er7_value.specs.Starts.{letterBefore, Starts};
+ghost use Rattle.er7_value.specs.Starts.{letter_before, Starts};
 
 use super::escape::value;
 use er7::separators::Separators;
@@ -101,7 +101,7 @@ fn first_fits(v: &[u8], t: &[u8], i: usize) -> bool
 // Whether a letter or digit stands in t directly before index i.
 fn letter_before(t: &[u8], i: usize) -> bool
     requires { i ≤ length t.now }
-    ensures { result ≡ letterBefore t.now i }
+    ensures { result ≡ letter_before t.now i }
 {
     if i == 0 {
         return false;
@@ -129,7 +129,7 @@ pub fn mark_starts(t: &[u8], starts: &mut [bool; 256])
 // Whether no letter or digit stands in t directly behind index e.
 fn ends_word(t: &[u8], e: usize) -> bool
     requires { e ≤ length t.now }
-    ensures { result ≡ endsWord (drop e t.now) }
+    ensures { result ≡ ends_word (drop e t.now) }
 {
     if e == t.len() {
         return true;
@@ -141,7 +141,7 @@ fn ends_word(t: &[u8], e: usize) -> bool
 // and behind a letter or digit, nothing else is compared.
 fn is_hit_at(v: &[u8], t: &[u8], i: usize) -> bool
     requires { i + length v.now ≤ length t.now }
-    ensures { result ≡ isHit v.now (letterBefore t.now i) (drop i t.now) }
+    ensures { result ≡ is_hit v.now (letter_before t.now i) (drop i t.now) }
 {
     if !first_fits(v, t, i) {
         return false;
@@ -167,7 +167,7 @@ fn least_left(n: usize) -> usize
 
 // Whether v is a whole word of t: whether it stands at some place of t with no letter or digit directly before or behind it.
 pub fn is_whole_word(v: &[u8], t: &[u8]) -> bool
-    ensures { result ≡ isWholeWord v.now t.now }
+    ensures { result ≡ is_whole_word v.now t.now }
 {
     let least = least_left(v.len());
     if t.len() < least {

@@ -1,8 +1,8 @@
 // The entries for C: thin over the library, which does the work. Each slice is a pointer and a length.
 ghost use Rattle.std.specs.Prelude.{◌≡◌, length};
-ghost use Rattle.run_model.specs.Entries.{redactOutcome, printOutcome, appendOutcome, builtinOutcome, payloadOutcome};
-ghost use Rattle.entries.specs.Returned.{lent, lentReport};
-ghost use Rattle.gateway.specs.Gateway.{outcomeOf, redactOutcomeOf};
+ghost use Rattle.run_model.specs.Entries.{redact_outcome, print_outcome, append_outcome, builtin_outcome, payload_outcome};
+ghost use Rattle.entries.specs.Returned.{lent, lent_report};
+ghost use Rattle.gateway.specs.Gateway.{outcome_of, redact_outcome_of};
 
 use entries::payload;
 use entries::print::{append, builtin, print};
@@ -22,7 +22,7 @@ pub extern "C" fn er7_redact(
     rows: &mut u64,
     line: &mut u64,
 ) -> u32
-    ensures { redactOutcomeOf result line.new text_len.new report_len.new rows.new output.new report.new scratch.new ≡ redactOutcome (lentReport (length output.old) (length report.old) (length scratch.old)) message.now policy.now key }
+    ensures { redact_outcome_of result line.new text_len.new report_len.new rows.new output.new report.new scratch.new ≡ redact_outcome (lent_report (length output.old) (length report.old) (length scratch.old)) message.now policy.now key }
 {
     let redacted = redact(message, policy, key, output, report, scratch);
     *text_len = redacted.text_len;
@@ -41,7 +41,7 @@ pub extern "C" fn er7_print(
     text_len: &mut u64,
     line: &mut u64,
 ) -> u32
-    ensures { outcomeOf result line.new text_len.new output.new scratch.new ≡ printOutcome (lent (length output.old) (length scratch.old)) policy.now }
+    ensures { outcome_of result line.new text_len.new output.new scratch.new ≡ print_outcome (lent (length output.old) (length scratch.old)) policy.now }
 {
     let printed = print(policy, output, scratch);
     *text_len = printed.text_len;
@@ -59,7 +59,7 @@ pub extern "C" fn er7_append(
     text_len: &mut u64,
     line: &mut u64,
 ) -> u32
-    ensures { outcomeOf result line.new text_len.new output.new scratch.new ≡ appendOutcome (lent (length output.old) (length scratch.old)) first.now second.now }
+    ensures { outcome_of result line.new text_len.new output.new scratch.new ≡ append_outcome (lent (length output.old) (length scratch.old)) first.now second.now }
 {
     let merged = append(first, second, output, scratch);
     *text_len = merged.text_len;
@@ -76,7 +76,7 @@ pub extern "C" fn er7_builtin(
     text_len: &mut u64,
     line: &mut u64,
 ) -> u32
-    ensures { outcomeOf result line.new text_len.new output.new scratch.new ≡ builtinOutcome (lent (length output.old) (length scratch.old)) number }
+    ensures { outcome_of result line.new text_len.new output.new scratch.new ≡ builtin_outcome (lent (length output.old) (length scratch.old)) number }
 {
     let named = builtin(number, output, scratch);
     *text_len = named.text_len;
@@ -95,7 +95,7 @@ pub extern "C" fn er7_payload(
     text_len: &mut u64,
     line: &mut u64,
 ) -> u32
-    ensures { outcomeOf result line.new text_len.new output.new scratch.new ≡ payloadOutcome (lent (length output.old) (length scratch.old)) payload.now policy.now key }
+    ensures { outcome_of result line.new text_len.new output.new scratch.new ≡ payload_outcome (lent (length output.old) (length scratch.old)) payload.now policy.now key }
 {
     let answered = payload::payload(payload, policy, key, output, scratch);
     *text_len = answered.text_len;

@@ -1,10 +1,10 @@
 -- message.rs, separators.rs, render.rs: messages, how they are read, and how they print. Assumes nothing: these are definitions.
 use Rattle.std.specs.Prelude.{Bool, true, false, not, cond, ◌&&◌, ◌||◌, List, [], ◌∷◌, ◌++◌, ℕ, ◌+◌, ◌-◌, length, take, drop, get_or, eqb, leb, ltb}
 use Rattle.std.proofs.Math.Option.{Option, none, some}
-use Rattle.text.specs.Text.{Text, bytes, isDigit, isUpper, isAlphanumeric, isBlank, same, all}
+use Rattle.text.specs.Text.{Text, bytes, is_digit, is_upper, is_alphanumeric, is_blank, same, all}
 use Rattle.refusal.specs.declared.Refusal.{Refusal}
 use Rattle.refusal.specs.declared.Refusal.TheVariants.{TooLong, ForeignByte, BadHeader, BadSegment, TooMany}
-use Rattle.refusal.specs.Refusal.{tooLong, noForeign}
+use Rattle.refusal.specs.Refusal.{too_long, no_foreign}
 use Rattle.refusal.specs.declared.input.Input.TheVariants as Inputs
 use Rattle.refusal.specs.Limits.{LEAVES_MAX, SEGMENTS_MAX}
 use Rattle.er7.specs.declared.message.Place.{Place}
@@ -27,70 +27,70 @@ pub data Segment : Type 0 where
 pub record Message : Type 0 where
   pub separators : Separators
   pub segments : List Segment
-  pub lastCR : Bool
+  pub last_cr : Bool
 
 -- ---- the header
 
 -- the names of headers; only MSH opens a message
-unfoldable pub isHeaderName : Text → Bool
-isHeaderName n = same n (bytes "MSH") || same n (bytes "FHS") || same n (bytes "BHS")
+unfoldable pub is_header_name : Text → Bool
+is_header_name n = same n (bytes "MSH") || same n (bytes "FHS") || same n (bytes "BHS")
 
 -- "none a letter, digit, blank, tab, CR or `"`"
-unfoldable pub mayDelimit : ℕ → Bool
-mayDelimit b = not (isAlphanumeric b || isBlank b || eqb b 0x0d || eqb b 0x22)
+unfoldable pub may_delimit : ℕ → Bool
+may_delimit b = not (is_alphanumeric b || is_blank b || eqb b 0x0d || eqb b 0x22)
 
 unfoldable pub absent : ℕ → Text → Bool
 absent x [] = true
 absent x (y ∷ ys) = not (eqb x y) && absent x ys
 
 -- "five different bytes": each may delimit, and is none of those behind it
-unfoldable pub mayDelimitAll : Text → Bool
-mayDelimitAll [] = true
-mayDelimitAll (x ∷ xs) = mayDelimit x && absent x xs && mayDelimitAll xs
+unfoldable pub may_delimit_all : Text → Bool
+may_delimit_all [] = true
+may_delimit_all (x ∷ xs) = may_delimit x && absent x xs && may_delimit_all xs
 
 -- "`MSH`, the field delimiter, then component, repetition, escape and subcomponent delimiters"
-unfoldable pub separatorsOf : Text → Separators
-separatorsOf l =
+unfoldable pub separators_of : Text → Separators
+separators_of l =
     record { field = get_or l 3 0; component = get_or l 4 0; repetition = get_or l 5 0; escape = get_or l 6 0; subcomponent = get_or l 7 0 }
 
 -- the first line opens so; "Next comes a field delimiter, CR or the end"
-unfoldable pub isHeader : Text → Bool
-isHeader l =
-    leb 8 (length l) && same (take 3 l) (bytes "MSH") && mayDelimitAll (take 5 (drop 3 l))
+unfoldable pub is_header : Text → Bool
+is_header l =
+    leb 8 (length l) && same (take 3 l) (bytes "MSH") && may_delimit_all (take 5 (drop 3 l))
     && (eqb (length l) 8 || eqb (get_or l 8 0) (get_or l 3 0))
 
 -- ---- lines: "Segments end in CR, the last CR is optional and written back as it came"
 
-unfoldable pub endsInCR : Text → Bool
-endsInCR t = eqb (get_or t (length t - 1) 0) 0x0d
+unfoldable pub ends_in_cr : Text → Bool
+ends_in_cr t = eqb (get_or t (length t - 1) 0) 0x0d
 
-unfoldable pub withoutLastCR : Text → Text
-withoutLastCR t = cond (endsInCR t) (take (length t - 1) t) t
+unfoldable pub without_last_cr : Text → Text
+without_last_cr t = cond (ends_in_cr t) (take (length t - 1) t) t
 
 -- the lines between CRs; w is the first line so far
-unfoldable pub segmentLines : Text → Text → List Text
-segmentLines w [] = w ∷ []
-segmentLines w (x ∷ t) = let more = segmentLines [] t in cond (eqb x 0x0d) (w ∷ more) (segmentLines (w ++ x ∷ []) t)
+unfoldable pub segment_lines : Text → Text → List Text
+segment_lines w [] = w ∷ []
+segment_lines w (x ∷ t) = let more = segment_lines [] t in cond (eqb x 0x0d) (w ∷ more) (segment_lines (w ++ x ∷ []) t)
 
 -- "An idle console sends nothing": a message of no bytes has no lines
-unfoldable pub messageLines : Text → List Text
-messageLines [] = []
-messageLines (x ∷ t) = segmentLines [] (withoutLastCR (x ∷ t))
+unfoldable pub message_lines : Text → List Text
+message_lines [] = []
+message_lines (x ∷ t) = segment_lines [] (without_last_cr (x ∷ t))
 
-unfoldable pub first_of : List Text → Text
-first_of [] = []
-first_of (l ∷ ls) = l
+unfoldable pub head_of : List Text → Text
+head_of [] = []
+head_of (l ∷ ls) = l
 
 -- "Number 4 keeps only its other cases": the first line, where there is one, is a header
-unfoldable pub isOpened : List Text → Bool
-isOpened [] = true
-isOpened (l ∷ ls) = isHeader l
+unfoldable pub is_opened : List Text → Bool
+is_opened [] = true
+is_opened (l ∷ ls) = is_header l
 
 -- ---- leaves: "Every split of an empty text yields one empty piece; a bare name has no fields"
 
 -- a byte that ends a leaf: every delimiter but the escape character
-unfoldable pub endsLeaf : Separators → ℕ → Bool
-endsLeaf s x = eqb x s.field || eqb x s.repetition || eqb x s.component || eqb x s.subcomponent
+unfoldable pub ends_leaf : Separators → ℕ → Bool
+ends_leaf s x = eqb x s.field || eqb x s.repetition || eqb x s.component || eqb x s.subcomponent
 
 -- where the leaf behind the delimiter x stands, if the one before it stands at p
 unfoldable pub next : Separators → ℕ → Place → Place
@@ -105,39 +105,39 @@ unfoldable pub leaves : Separators → Place → Text → Text → List Leaf
 leaves s p w [] = leaf p false (some w) ∷ []
 leaves s p w (x ∷ t) =
     let more = leaves s (next s x p) [] t in
-    cond (endsLeaf s x) (leaf p false (some w) ∷ more) (leaves s p (w ++ x ∷ []) t)
+    cond (ends_leaf s x) (leaf p false (some w) ∷ more) (leaves s p (w ++ x ∷ []) t)
 
 -- the leaves of what follows a name or MSH-2, from its delimiter on; p is the place before them
-unfoldable pub leavesBehind : Separators → Place → Text → List Leaf
-leavesBehind s p [] = []
-leavesBehind s p (x ∷ t) = leaves s (next s x p) [] t
+unfoldable pub leaves_behind : Separators → Place → Text → List Leaf
+leaves_behind s p [] = []
+leaves_behind s p (x ∷ t) = leaves s (next s x p) [] t
 
-unfoldable pub atField : ℕ → Place
-atField n = record { field = n; repetition = 1; component = 1; subcomponent = 1 }
+unfoldable pub at_field : ℕ → Place
+at_field n = record { field = n; repetition = 1; component = 1; subcomponent = 1 }
 
 -- the leaves of a header's line; "MSH-1 and MSH-2 are one leaf each"
-unfoldable pub headerLeaves : Separators → Text → List Leaf
-headerLeaves s l =
-    leaf (atField 1) false (some (s.field ∷ []))
-    ∷ leaf (atField 2) false (some (s.component ∷ s.repetition ∷ s.escape ∷ s.subcomponent ∷ []))
-    ∷ leavesBehind s (atField 2) (drop 8 l)
+unfoldable pub header_leaves : Separators → Text → List Leaf
+header_leaves s l =
+    leaf (at_field 1) false (some (s.field ∷ []))
+    ∷ leaf (at_field 2) false (some (s.component ∷ s.repetition ∷ s.escape ∷ s.subcomponent ∷ []))
+    ∷ leaves_behind s (at_field 2) (drop 8 l)
 
 -- the leaves of a line
-unfoldable pub leavesOf : Separators → Text → List Leaf
-leavesOf s l = cond (isHeaderName (take 3 l)) (headerLeaves s l) (leavesBehind s (atField 0) (drop 3 l))
+unfoldable pub leaves_of : Separators → Text → List Leaf
+leaves_of s l = cond (is_header_name (take 3 l)) (header_leaves s l) (leaves_behind s (at_field 0) (drop 3 l))
 
 -- ---- segments
 
-unfoldable pub isNameByte : ℕ → Bool
-isNameByte b = isUpper b || isDigit b
+unfoldable pub is_name_byte : ℕ → Bool
+is_name_byte b = is_upper b || is_digit b
 
 -- "A name is three capitals or digits"; not "a second MSH, any FHS, BHS"
-unfoldable pub isName : Text → Bool
-isName n = all isNameByte n && not (isHeaderName n)
+unfoldable pub is_name : Text → Bool
+is_name n = all is_name_byte n && not (is_header_name n)
 
 -- a line begins with a name, "followed by a field delimiter or the end"
-unfoldable pub isNamed : Separators → Text → Bool
-isNamed s l = leb 3 (length l) && isName (take 3 l) && (eqb (length l) 3 || eqb (get_or l 3 0) s.field)
+unfoldable pub is_named : Separators → Text → Bool
+is_named s l = leb 3 (length l) && is_name (take 3 l) && (eqb (length l) 3 || eqb (get_or l 3 0) s.field)
 
 -- how many of the names are n
 unfoldable pub count : Text → List Text → ℕ
@@ -148,43 +148,43 @@ count n (m ∷ ms) = cond (same m n) 1 0 + count n ms
 unfoldable pub segments : Separators → List Text → List Text → List Segment
 segments s seen [] = []
 segments s seen (l ∷ ls) =
-    segment (record { name = take 3 l; occurrence = count (take 3 l) seen + 1 }) (leavesOf s l)
+    segment (record { name = take 3 l; occurrence = count (take 3 l) seen + 1 }) (leaves_of s l)
     ∷ segments s (seen ++ take 3 l ∷ []) ls
 
 -- the message of the bytes t
-unfoldable pub messageOf : Text → Message
-messageOf t =
-    let ls = messageLines t in
+unfoldable pub message_of : Text → Message
+message_of t =
+    let ls = message_lines t in
     record {
-      separators = separatorsOf (first_of ls);
-      segments = segments (separatorsOf (first_of ls)) [] ls;
-      lastCR = endsInCR t;
+      separators = separators_of (head_of ls);
+      segments = segments (separators_of (head_of ls)) [] ls;
+      last_cr = ends_in_cr t;
     }
 
 -- ---- refusals: "2, 3, 4, then segments in order with 5 before 6"
 
 -- the first fault of lines that follow k segments with n leaves: "empty, wrongly named, or a second MSH, any FHS, BHS";
 -- "over 256 segments, 4,096 leaves"
-unfoldable pub segmentsFault : Separators → ℕ → ℕ → List Text → Option Refusal
-segmentsFault s k n [] = none
-segmentsFault s k n (l ∷ ls) =
-    cond (not (eqb k 0 || isNamed s l)) (some BadSegment)
-    (cond (leb SEGMENTS_MAX k || ltb LEAVES_MAX (n + length (leavesOf s l))) (some TooMany)
-    (segmentsFault s (k + 1) (n + length (leavesOf s l)) ls))
+unfoldable pub segments_fault : Separators → ℕ → ℕ → List Text → Option Refusal
+segments_fault s k n [] = none
+segments_fault s k n (l ∷ ls) =
+    cond (not (eqb k 0 || is_named s l)) (some BadSegment)
+    (cond (leb SEGMENTS_MAX k || ltb LEAVES_MAX (n + length (leaves_of s l))) (some TooMany)
+    (segments_fault s (k + 1) (n + length (leaves_of s l)) ls))
 
-unfoldable pub messageFault : Text → Option Refusal
-messageFault t =
-    let ls = messageLines t in
-    cond (tooLong t) (some TooLong)
-    (cond (not (noForeign Inputs.Message t)) (some ForeignByte)
-    (cond (not (isOpened ls)) (some BadHeader)
-    (segmentsFault (separatorsOf (first_of ls)) 0 0 ls)))
+unfoldable pub message_fault : Text → Option Refusal
+message_fault t =
+    let ls = message_lines t in
+    cond (too_long t) (some TooLong)
+    (cond (not (no_foreign Inputs.Message t)) (some ForeignByte)
+    (cond (not (is_opened ls)) (some BadHeader)
+    (segments_fault (separators_of (head_of ls)) 0 0 ls)))
 
 -- ---- printing
 
 -- "MSH-1 and MSH-2 are never touched"
 unfoldable pub touchable : Label → Place → Bool
-touchable g p = not (isHeaderName g.name && leb p.field 2)
+touchable g p = not (is_header_name g.name && leb p.field 2)
 
 -- the delimiter before a leaf follows from its place
 unfoldable pub delimiter : Separators → Place → ℕ
@@ -197,15 +197,15 @@ delimiter s p =
 unfoldable pub lead : Separators → Label → Place → Text
 lead s g p = cond (touchable g p) (delimiter s p ∷ []) []
 
-unfoldable pub printLeaves : Separators → Label → List Leaf → Text
-printLeaves s g [] = []
-printLeaves s g (leaf p n none ∷ xs) = printLeaves s g xs
-printLeaves s g (leaf p n (some t) ∷ xs) = lead s g p ++ (t ++ printLeaves s g xs)
+unfoldable pub print_leaves : Separators → Label → List Leaf → Text
+print_leaves s g [] = []
+print_leaves s g (leaf p n none ∷ xs) = print_leaves s g xs
+print_leaves s g (leaf p n (some t) ∷ xs) = lead s g p ++ (t ++ print_leaves s g xs)
 
-unfoldable pub printSegments : Separators → Bool → List Segment → Text
-printSegments s cr [] = []
-printSegments s cr (segment g xs ∷ []) = g.name ++ (printLeaves s g xs ++ cond cr (0x0d ∷ []) [])
-printSegments s cr (segment g xs ∷ z ∷ ss) = g.name ++ (printLeaves s g xs ++ (0x0d ∷ printSegments s cr (z ∷ ss)))
+unfoldable pub print_segments : Separators → Bool → List Segment → Text
+print_segments s cr [] = []
+print_segments s cr (segment g xs ∷ []) = g.name ++ (print_leaves s g xs ++ cond cr (0x0d ∷ []) [])
+print_segments s cr (segment g xs ∷ z ∷ ss) = g.name ++ (print_leaves s g xs ++ (0x0d ∷ print_segments s cr (z ∷ ss)))
 
-unfoldable pub printMessage : Message → Text
-printMessage m = printSegments m.separators m.lastCR m.segments
+unfoldable pub print_message : Message → Text
+print_message m = print_segments m.separators m.last_cr m.segments

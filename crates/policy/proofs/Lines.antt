@@ -9,75 +9,75 @@ use native.Mathlib.Omega.{arith}
 use borrow.Author.Tests.{lt-ltb, le-ltb}
 use lib.Dec.{ltb}
 use lib.ListN.{length, get_or}
-use Rattle.text.specs.Text.{Text, bytes, isWord, isBlank, notBlank, isIn, is_empty, part, between, run, rest, isAlphanumeric, RunTo}
+use Rattle.text.specs.Text.{Text, bytes, is_word, is_blank, not_blank, is_in, is_empty, part, between, run, rest, is_alphanumeric, RunTo}
 use Rattle.text.specs.declared.bytes.Class.TheVariants.{Blank, NotBlank, AllBut}
 use Rattle.text.proofs.Laws.{clash}
-use Rattle.text.proofs.Runs.{between-length, part-more}
-use Rattle.text.specs.Characters.{trimEnd, prepend, trim}
-use Rattle.er7.specs.Path.{Path, readPath, heldPath}
+use Rattle.text.proofs.Runs.{between_length, part_more}
+use Rattle.text.specs.Characters.{trim_end, prepend, trim}
+use Rattle.er7.specs.Path.{Path, read_path, held_path}
 use Rattle.er7.specs.Path as P
 use Rattle.er7.specs.declared.path.ParsedPath.{ParsedPath}
 use Rattle.er7.specs.declared.path.ParsedPath.TheVariants as Paths
 use Rattle.er7.proofs.PathReadBack as PathBack
-use Rattle.er7_redact.specs.Action.{ActionRead, is-action, no-action, heldRead, readAction, heldAs, argument, argumentAt, asAction}
+use Rattle.er7_redact.specs.Action.{ActionRead, is_action, no_action, held_read, read_action, held_as, argument, argument_at, as_action}
 use Rattle.er7_redact.specs.declared.action.ParsedAction.{ParsedAction}
 use Rattle.er7_redact.specs.declared.action.ParsedAction.TheVariants as Actions
 use Rattle.er7_redact.proofs.ActionReadBack as ActionBack
 use Rattle.er7_redact.specs.Action.{replacement, ActionHeld}
 use Rattle.er7_redact.specs.declared.action.Action.{Action as HeldAction}
 use Rattle.er7_redact.specs.declared.action.Action.TheVariants as Held
-use Rattle.er7_redact.specs.Policy.{asPosture, asRule}
+use Rattle.er7_redact.specs.Policy.{as_posture, as_rule}
 use Rattle.er7_redact.specs.declared.policy.Posture.{Posture as HeldPosture}
 use Rattle.er7_redact.specs.declared.policy.Posture.TheVariants.{Accept, Reject}
 use Rattle.er7.specs.declared.path.Path.{Path as HeldPath}
 use Rattle.refusal.specs.declared.Refusal.{Refusal}
 use Rattle.refusal.specs.declared.Refusal.TheVariants.{TooMany, BadPath, BadDirective}
-use Rattle.policy_model.specs.Policy.{posture, unrecognised, readAccept, readReject, readUnrecognised, readRule, withAction, withPath, judged, readDirective, lineKind, readWords, notCR, notHash, readLine}
+use Rattle.policy_model.specs.Policy.{posture, unrecognised, read_accept, read_reject, read_unrecognised, read_rule, with_action, with_path, judged, read_directive, line_kind, read_words, not_cr, not_hash, read_line}
 use Rattle.policy.specs.declared.line.Unrecognised.{Unrecognised as HeldUnrecognised}
 use Rattle.policy.specs.declared.line.Unrecognised.TheVariants.{Pass, Refuse}
 use Rattle.policy.specs.declared.line.LineRead.{LineRead as HeldLine}
 use Rattle.policy.specs.declared.line.LineRead.TheVariants.{Nothing, Rule, Posture, Unrecognised, Wrong}
 use Rattle.policy.specs.declared.line.LineKind.{LineKind as HeldLineKind}
-use Rattle.policy.specs.Line.{asLineKind, asLine, asUnrecognised, asParsedAction, asParsedPath, ParsedActionHeld, ParsedPathHeld, Rejecting, Applying, LineAt, ActionAt, PathAt, TrimmedEnd}
+use Rattle.policy.specs.Line.{as_line_kind, as_line, as_unrecognised, as_parsed_action, as_parsed_path, ParsedActionHeld, ParsedPathHeld, Rejecting, Applying, LineAt, ActionAt, PathAt, TrimmedEnd}
 
 -- ---- what is read between two indices
 
 -- the text between them stands there
-between-part : (t : Text) (i e : ℕ) → i ≤ e → e ≤ length t → part t i (length (between t i e)) ≡ between t i e
-between-part t i e h l = rw (between-length t i e l) (unfold between part in refl)
+between_part : (t : Text) (i e : ℕ) → i ≤ e → e ≤ length t → part t i (length (between t i e)) ≡ between t i e
+between_part t i e h l = rw (between_length t i e l) (unfold between part in refl)
 
 -- an action or a path that was parsed from s, which stands in t from index i on
 module _ (t s : Text) (i : ℕ) (w : part t i (length s) ≡ s) (k : i + length s ≤ length t) where
-  action-in : (r : ParsedAction) → r ≡ heldRead (i + argumentAt s) (length (argument s)) (readAction s) → ActionAt t (readAction s) r
-  action-in r q = go (readAction s) refl
+  action_in_lem : (r : ParsedAction) → r ≡ held_read (i + argument_at s) (length (argument s)) (read_action s) → ActionAt t (read_action s) r
+  action_in_lem r q = go (read_action s) refl
     where
-      go : (o : ActionRead) → readAction s ≡ o → ActionAt t o r
-      go (no-action x) e = unfold heldRead asParsedAction in rw (q ∙ ap (heldRead _ _) e) (record { is = refl; held = tt })
-      go (is-action a) e =
-          unfold asParsedAction heldRead in
-          let f : r ≡ Actions.Parsed (heldAs (i + argumentAt s) (length (argument s)) a) = q ∙ ap (heldRead _ _) e in
+      go : (o : ActionRead) → read_action s ≡ o → ActionAt t o r
+      go (no_action x) e = unfold held_read as_parsed_action in rw (q ∙ ap (held_read _ _) e) (record { is = refl; held = tt })
+      go (is_action a) e =
+          unfold as_parsed_action held_read in
+          let f : r ≡ Actions.Parsed (held_as (i + argument_at s) (length (argument s)) a) = q ∙ ap (held_read _ _) e in
           let g = ActionBack.parsed-held t s i r _ k q f in
-          rw f (record { is = ap is-action (ActionBack.held-stands t s i a w e); held = g })
+          rw f (record { is = ap is_action (ActionBack.held-stands t s i a w e); held = g })
 
-  path-in : (r : ParsedPath) → r ≡ heldPath i (length (run isAlphanumeric s)) (readPath s) → PathAt t (readPath s) r
-  path-in r q = go (readPath s) refl
+  path_in : (r : ParsedPath) → r ≡ held_path i (length (run is_alphanumeric s)) (read_path s) → PathAt t (read_path s) r
+  path_in r q = go (read_path s) refl
     where
-      go : (o : Option Path) → readPath s ≡ o → PathAt t o r
-      go none e = unfold heldPath asParsedPath in rw (q ∙ ap (heldPath _ _) e) (record { is = refl; held = tt })
+      go : (o : Option Path) → read_path s ≡ o → PathAt t o r
+      go none e = unfold held_path as_parsed_path in rw (q ∙ ap (held_path _ _) e) (record { is = refl; held = tt })
       go (some p) e =
-          unfold asParsedPath heldPath in
-          let f : r ≡ Paths.Parsed (P.heldAs i (length (run isAlphanumeric s)) p) = q ∙ ap (heldPath _ _) e in
+          unfold as_parsed_path held_path in
+          let f : r ≡ Paths.Parsed (P.heldAs i (length (run is_alphanumeric s)) p) = q ∙ ap (held_path _ _) e in
           let g = PathBack.parsed-held t s i r _ k q f in
           rw f (record { is = ap some (PathBack.held-stands t s i p w e); held = g })
 
 module _ (t : Text) (i e : ℕ) (h : i ≤ e) (l : e ≤ length t) where
-  pub action-between : (r : ParsedAction) → r ≡ heldRead (i + argumentAt (between t i e)) (length (argument (between t i e))) (readAction (between t i e))
-      → ActionAt t (readAction (between t i e)) r
-  action-between r q = action-in t (between t i e) i (between-part t i e h l) (omega (arith, between-length t i e l)) r q
+  pub action_between : (r : ParsedAction) → r ≡ held_read (i + argument_at (between t i e)) (length (argument (between t i e))) (read_action (between t i e))
+      → ActionAt t (read_action (between t i e)) r
+  action_between r q = action_in_lem t (between t i e) i (between_part t i e h l) (omega (arith, between_length t i e l)) r q
 
-  pub path-between : (r : ParsedPath) → r ≡ heldPath i (length (run isAlphanumeric (between t i e))) (readPath (between t i e))
-      → PathAt t (readPath (between t i e)) r
-  path-between r q = path-in t (between t i e) i (between-part t i e h l) (omega (arith, between-length t i e l)) r q
+  pub path_between : (r : ParsedPath) → r ≡ held_path i (length (run is_alphanumeric (between t i e))) (read_path (between t i e))
+      → PathAt t (read_path (between t i e)) r
+  path_between r q = path_in t (between t i e) i (between_part t i e h l) (omega (arith, between_length t i e l)) r q
 
 -- ---- no text between two indices, and some
 
@@ -85,8 +85,8 @@ pub none_between : (t : Text) (i e : ℕ) → i ≡ e → between t i e ≡ []
 unfolding between
 none_between t i e h = rw (h, sub_self e)
 
-pub some-between : (t : Text) (i e : ℕ) → i < e → e ≤ length t → is_empty (between t i e) ≡ false
-some-between t i e h l = go (between t i e) (between-length t i e l)
+pub some_between : (t : Text) (i e : ℕ) → i < e → e ≤ length t → is_empty (between t i e) ≡ false
+some_between t i e h l = go (between t i e) (between_length t i e l)
   where
     go : (s : Text) → length s ≡ e - i → is_empty s ≡ false
     go [] q = absurd (omega arith)
@@ -95,181 +95,181 @@ some-between t i e h l = go (between t i e) (between-length t i e l)
 -- ---- directives and rules
 
 module _ (t : Text) (i e : ℕ) where
-  pub accept-bare : i ≡ e → LineAt t (readAccept (between t i e)) (Posture Accept)
-  unfolding readAccept is_empty asLine asPosture
-  accept-bare h = record { is = rw (none_between t i e h); held = tt }
+  pub accept_bare : i ≡ e → LineAt t (read_accept (between t i e)) (Posture Accept)
+  unfolding read_accept is_empty as_line as_posture
+  accept_bare h = record { is = rw (none_between t i e h); held = tt }
 
-  pub reject-bare : i ≡ e → LineAt t (readReject (between t i e)) (Posture (Reject (Held.Replace 0 0)))
-  unfolding readReject is_empty asLine asPosture asAction replacement
-  reject-bare h = record { is = rw (none_between t i e h); held = omega arith }
+  pub reject_bare : i ≡ e → LineAt t (read_reject (between t i e)) (Posture (Reject (Held.Replace 0 0)))
+  unfolding read_reject is_empty as_line as_posture as_action replacement
+  reject_bare h = record { is = rw (none_between t i e h); held = omega arith }
 
-  pub unrecognised-bare : i ≡ e → LineAt t (readUnrecognised (between t i e)) (Wrong BadDirective)
-  unfolding readUnrecognised is_empty asLine
-  unrecognised-bare h = record { is = rw (none_between t i e h); held = tt }
+  pub unrecognised_bare : i ≡ e → LineAt t (read_unrecognised (between t i e)) (Wrong BadDirective)
+  unfolding read_unrecognised is_empty as_line
+  unrecognised_bare h = record { is = rw (none_between t i e h); held = tt }
 
   module _ (h : i < e) (l : e ≤ length t) where
-    pub accept-more : LineAt t (readAccept (between t i e)) (Wrong BadDirective)
-    unfolding readAccept asLine
-    accept-more = record { is = rw (some-between t i e h l); held = tt }
+    pub accept_more : LineAt t (read_accept (between t i e)) (Wrong BadDirective)
+    unfolding read_accept as_line
+    accept_more = record { is = rw (some_between t i e h l); held = tt }
 
-    pub reject-wrong : {r : ParsedAction} {x : Refusal} → ActionAt t (readAction (between t i e)) r → r ≡ Actions.Refused x → LineAt t (readReject (between t i e)) (Wrong x)
-    unfolding readReject asLine withAction asParsedAction
-    reject-wrong g q = record { is = rw (some-between t i e h l, sym g.is, q); held = tt }
+    pub reject_wrong : {r : ParsedAction} {x : Refusal} → ActionAt t (read_action (between t i e)) r → r ≡ Actions.Refused x → LineAt t (read_reject (between t i e)) (Wrong x)
+    unfolding read_reject as_line with_action as_parsed_action
+    reject_wrong g q = record { is = rw (some_between t i e h l, sym g.is, q); held = tt }
 
-    pub reject-right : {r : ParsedAction} {a : HeldAction} {p : HeldPosture} → ActionAt t (readAction (between t i e)) r → r ≡ Actions.Parsed a → Rejecting a p
-        → LineAt t (readReject (between t i e)) (Posture p)
-    unfolding readReject asLine withAction asParsedAction
-    reject-right {r} {a} {p} g q k = record {
-      is = rw (some-between t i e h l, sym g.is, q) (ap posture (k.is t));
+    pub reject_right : {r : ParsedAction} {a : HeldAction} {p : HeldPosture} → ActionAt t (read_action (between t i e)) r → r ≡ Actions.Parsed a → Rejecting a p
+        → LineAt t (read_reject (between t i e)) (Posture p)
+    unfolding read_reject as_line with_action as_parsed_action
+    reject_right {r} {a} {p} g q k = record {
+      is = rw (some_between t i e h l, sym g.is, q) (ap posture (k.is t));
       held = k.held t (subst (ParsedActionHeld t) q g.held);
     }
 
-    module _ (not-refuse : isWord (between t i e) (bytes "refuse") ≡ false) (not-pass : isWord (between t i e) (bytes "pass") ≡ false) where
-      pub unrecognised-wrong : {r : ParsedAction} {x : Refusal} → ActionAt t (readAction (between t i e)) r → r ≡ Actions.Refused x
-          → LineAt t (readUnrecognised (between t i e)) (Wrong x)
-      unfolding readUnrecognised asLine withAction asParsedAction
-      unrecognised-wrong g q = record { is = rw (some-between t i e h l, not-refuse, not-pass, sym g.is, q); held = tt }
+    module _ (not-refuse : is_word (between t i e) (bytes "refuse") ≡ false) (not-pass : is_word (between t i e) (bytes "pass") ≡ false) where
+      pub unrecognised_wrong : {r : ParsedAction} {x : Refusal} → ActionAt t (read_action (between t i e)) r → r ≡ Actions.Refused x
+          → LineAt t (read_unrecognised (between t i e)) (Wrong x)
+      unfolding read_unrecognised as_line with_action as_parsed_action
+      unrecognised_wrong g q = record { is = rw (some_between t i e h l, not-refuse, not-pass, sym g.is, q); held = tt }
 
-      pub unrecognised-right : {r : ParsedAction} {a : HeldAction} {u : HeldUnrecognised} → ActionAt t (readAction (between t i e)) r → r ≡ Actions.Parsed a
-          → Applying a u → LineAt t (readUnrecognised (between t i e)) (Unrecognised u)
-      unfolding readUnrecognised asLine withAction asParsedAction
-      unrecognised-right {r} {a} {u} g q k = record {
-        is = rw (some-between t i e h l, not-refuse, not-pass, sym g.is, q) (ap unrecognised (k.is t));
+      pub unrecognised_right : {r : ParsedAction} {a : HeldAction} {u : HeldUnrecognised} → ActionAt t (read_action (between t i e)) r → r ≡ Actions.Parsed a
+          → Applying a u → LineAt t (read_unrecognised (between t i e)) (Unrecognised u)
+      unfolding read_unrecognised as_line with_action as_parsed_action
+      unrecognised_right {r} {a} {u} g q k = record {
+        is = rw (some_between t i e h l, not-refuse, not-pass, sym g.is, q) (ap unrecognised (k.is t));
         held = k.held t (subst (ParsedActionHeld t) q g.held);
       }
 
-    pub unrecognised-refuse : isWord (between t i e) (bytes "refuse") ≡ true → LineAt t (readUnrecognised (between t i e)) (Unrecognised Refuse)
-    unfolding readUnrecognised asLine asUnrecognised
-    unrecognised-refuse q = record { is = rw (some-between t i e h l, q); held = tt }
+    pub unrecognised_refuse : is_word (between t i e) (bytes "refuse") ≡ true → LineAt t (read_unrecognised (between t i e)) (Unrecognised Refuse)
+    unfolding read_unrecognised as_line as_unrecognised
+    unrecognised_refuse q = record { is = rw (some_between t i e h l, q); held = tt }
 
-    pub unrecognised-pass : isWord (between t i e) (bytes "refuse") ≡ false → isWord (between t i e) (bytes "pass") ≡ true
-        → LineAt t (readUnrecognised (between t i e)) (Unrecognised Pass)
-    unfolding readUnrecognised asLine asUnrecognised
-    unrecognised-pass p q = record { is = rw (some-between t i e h l, p, q); held = tt }
+    pub unrecognised_pass : is_word (between t i e) (bytes "refuse") ≡ false → is_word (between t i e) (bytes "pass") ≡ true
+        → LineAt t (read_unrecognised (between t i e)) (Unrecognised Pass)
+    unfolding read_unrecognised as_line as_unrecognised
+    unrecognised_pass p q = record { is = rw (some_between t i e h l, p, q); held = tt }
 
 -- a rule's action, then its path
 module _ (t w s : Text) where
-  pub rule-wrong : {r : ParsedAction} {x : Refusal} → ActionAt t (readAction s) r → r ≡ Actions.Refused x → LineAt t (readRule w s) (Wrong x)
-  unfolding readRule asLine withAction asParsedAction
-  rule-wrong g q = record { is = rw (sym g.is, q); held = tt }
+  pub rule_wrong : {r : ParsedAction} {x : Refusal} → ActionAt t (read_action s) r → r ≡ Actions.Refused x → LineAt t (read_rule w s) (Wrong x)
+  unfolding read_rule as_line with_action as_parsed_action
+  rule_wrong g q = record { is = rw (sym g.is, q); held = tt }
 
-  pub rule-right : {r : ParsedAction} {a : HeldAction} {said : HeldLine} → ActionAt t (readAction s) r → r ≡ Actions.Parsed a
-      → LineAt t (withPath (asAction t a) (readPath w)) said → LineAt t (readRule w s) said
-  unfolding readRule withAction asParsedAction
-  rule-right g q k = record { is = rw (sym g.is, q) k.is; held = k.held }
+  pub rule_right : {r : ParsedAction} {a : HeldAction} {said : HeldLine} → ActionAt t (read_action s) r → r ≡ Actions.Parsed a
+      → LineAt t (with_path (as_action t a) (read_path w)) said → LineAt t (read_rule w s) said
+  unfolding read_rule with_action as_parsed_action
+  rule_right g q k = record { is = rw (sym g.is, q) k.is; held = k.held }
 
-  pub path-wrong : {r : ParsedPath} (a : HeldAction) → PathAt t (readPath w) r → r ≡ Paths.BadPath → LineAt t (withPath (asAction t a) (readPath w)) (Wrong BadPath)
-  unfolding asLine withPath asParsedPath
-  path-wrong a g q = record { is = rw (sym g.is, q); held = tt }
+  pub path_wrong : {r : ParsedPath} (a : HeldAction) → PathAt t (read_path w) r → r ≡ Paths.BadPath → LineAt t (with_path (as_action t a) (read_path w)) (Wrong BadPath)
+  unfolding as_line with_path as_parsed_path
+  path_wrong a g q = record { is = rw (sym g.is, q); held = tt }
 
-  pub path-right : {r : ParsedPath} {p : HeldPath} (a : HeldAction) → ActionHeld t a → PathAt t (readPath w) r → r ≡ Paths.Parsed p
-      → LineAt t (withPath (asAction t a) (readPath w)) (Rule (record { path = p; action = a }))
-  unfolding asLine withPath asParsedPath asRule
-  path-right a k g q = record { is = rw (sym g.is, q); held = record { path = subst (ParsedPathHeld t) q g.held; action = k } }
+  pub path_right : {r : ParsedPath} {p : HeldPath} (a : HeldAction) → ActionHeld t a → PathAt t (read_path w) r → r ≡ Paths.Parsed p
+      → LineAt t (with_path (as_action t a) (read_path w)) (Rule (record { path = p; action = a }))
+  unfolding as_line with_path as_parsed_path as_rule
+  path_right a k g q = record { is = rw (sym g.is, q); held = record { path = subst (ParsedPathHeld t) q g.held; action = k } }
 
 -- ---- blanks at the end
 
 -- one blank fewer
-trim-blank : (s : Text) (x : ℕ) → isBlank x ≡ true → trimEnd (s ++ (x ∷ [])) ≡ trimEnd s
-unfolding trimEnd prepend
-trim-blank [] x e = rw e
-trim-blank (y ∷ s) x e = ap (prepend y) (trim-blank s x e)
+trim_blank : (s : Text) (x : ℕ) → is_blank x ≡ true → trim_end (s ++ (x ∷ [])) ≡ trim_end s
+unfolding trim_end prepend
+trim_blank [] x e = rw e
+trim_blank (y ∷ s) x e = ap (prepend y) (trim_blank s x e)
 
 -- no blank
-trim-other : (s : Text) (x : ℕ) → isBlank x ≡ false → trimEnd (s ++ (x ∷ [])) ≡ s ++ (x ∷ [])
-unfolding trimEnd prepend
-trim-other [] x e = rw e
-trim-other (y ∷ s) x e = ap (prepend y) (trim-other s x e) ∙ prepend-append s
+trim_other : (s : Text) (x : ℕ) → is_blank x ≡ false → trim_end (s ++ (x ∷ [])) ≡ s ++ (x ∷ [])
+unfolding trim_end prepend
+trim_other [] x e = rw e
+trim_other (y ∷ s) x e = ap (prepend y) (trim_other s x e) ∙ prepend_append s
   where
-    prepend-append : (t : Text) → prepend y (t ++ (x ∷ [])) ≡ y ∷ (t ++ (x ∷ []))
-    prepend-append [] = refl
-    prepend-append (z ∷ t) = refl
+    prepend_append : (t : Text) → prepend y (t ++ (x ∷ [])) ≡ y ∷ (t ++ (x ∷ []))
+    prepend_append [] = refl
+    prepend_append (z ∷ t) = refl
 
 -- the last byte
-between-last : (t : Text) (i j : ℕ) → i < j → j ≤ length t → between t i j ≡ between t i (j - 1) ++ (get_or t (j - 1) 0 ∷ [])
+between_last : (t : Text) (i j : ℕ) → i < j → j ≤ length t → between t i j ≡ between t i (j - 1) ++ (get_or t (j - 1) 0 ∷ [])
 unfolding between part
-between-last t i j h l =
+between_last t i j h l =
     let n : j - i ≡ j - 1 - i + 1 = omega arith in
-    rw n (part-more t i (j - 1 - i) (j - 1) (omega arith) (omega arith))
+    rw n (part_more t i (j - 1 - i) (j - 1) (omega arith) (omega arith))
 
 -- the blanks behind index j are off
 pub record Trimming (t : Text) (i e j : ℕ) : Type 0 where
   pub low : i ≤ j
   pub high : j ≤ e
-  pub is : trimEnd (between t i j) ≡ trimEnd (between t i e)
+  pub is : trim_end (between t i j) ≡ trim_end (between t i e)
 
-pub trimming-start : (t : Text) (i e : ℕ) → i ≤ e → Trimming t i e e
-trimming-start t i e h = record { low = h; high = omega arith; is = refl }
+pub trimming_start : (t : Text) (i e : ℕ) → i ≤ e → Trimming t i e e
+trimming_start t i e h = record { low = h; high = omega arith; is = refl }
 
 module _ {t : Text} {i e j : ℕ} (l : e ≤ length t) (g : Trimming t i e j) where
-  pub trimming-more : i < j → isBlank (get_or t (j - 1) 0) ≡ true → Trimming t i e (j - 1)
-  trimming-more h b = record {
+  pub trimming_more : i < j → is_blank (get_or t (j - 1) 0) ≡ true → Trimming t i e (j - 1)
+  trimming_more h b = record {
     low = omega (arith, g.low);
     high = omega (arith, g.high);
-    is = sym (ap trimEnd (between-last t i j h (omega (arith, g.high))) ∙ trim-blank (between t i (j - 1)) (get_or t (j - 1) 0) b) ∙ g.is;
+    is = sym (ap trim_end (between_last t i j h (omega (arith, g.high))) ∙ trim_blank (between t i (j - 1)) (get_or t (j - 1) 0) b) ∙ g.is;
   }
 
-  pub trimming-stop : i < j → isBlank (get_or t (j - 1) 0) ≡ false → TrimmedEnd t i e j
-  trimming-stop h b =
-      let q = between-last t i j h (omega (arith, g.high)) in
+  pub trimming_stop : i < j → is_blank (get_or t (j - 1) 0) ≡ false → TrimmedEnd t i e j
+  trimming_stop h b =
+      let q = between_last t i j h (omega (arith, g.high)) in
       record {
         low = g.low;
         high = g.high;
-        is = q ∙ sym (trim-other (between t i (j - 1)) (get_or t (j - 1) 0) b) ∙ ap trimEnd (sym q) ∙ g.is;
+        is = q ∙ sym (trim_other (between t i (j - 1)) (get_or t (j - 1) 0) b) ∙ ap trim_end (sym q) ∙ g.is;
       }
 
-  pub trimming-end : j ≤ i → TrimmedEnd t i e j
-  trimming-end h =
+  pub trimming_end : j ≤ i → TrimmedEnd t i e j
+  trimming_end h =
       let q = none_between t i j (omega (arith, g.low)) in
-      record { low = g.low; high = g.high; is = q ∙ nil ∙ ap trimEnd (sym q) ∙ g.is }
+      record { low = g.low; high = g.high; is = q ∙ nil ∙ ap trim_end (sym q) ∙ g.is }
     where
-      nil : [] ≡ trimEnd []
-      nil = unfold trimEnd in refl
+      nil : [] ≡ trim_end []
+      nil = unfold trim_end in refl
 
 -- ---- a line, from its last step to its first
 
 module _ (t : Text) (i m k e : ℕ) (h : m ≤ length t) (l : e ≤ length t) where
-  pub judged-long : ltb 64 (m - i) || ltb 80 (e - k) ≡ true → LineAt t (judged (between t i m) (between t k e)) (Wrong TooMany)
-  unfolding judged asLine
-  judged-long q = record { is = rw (between-length t i m h, between-length t k e l, q); held = tt }
+  pub judged_long : ltb 64 (m - i) || ltb 80 (e - k) ≡ true → LineAt t (judged (between t i m) (between t k e)) (Wrong TooMany)
+  unfolding judged as_line
+  judged_long q = record { is = rw (between_length t i m h, between_length t k e l, q); held = tt }
 
-  pub judged-short : (g : HeldLineKind) {r : HeldLine} → ltb 64 (m - i) || ltb 80 (e - k) ≡ false → asLineKind g ≡ lineKind (between t i m)
-      → LineAt t (readDirective (asLineKind g) (between t i m) (between t k e)) r → LineAt t (judged (between t i m) (between t k e)) r
+  pub judged_short : (g : HeldLineKind) {r : HeldLine} → ltb 64 (m - i) || ltb 80 (e - k) ≡ false → as_line_kind g ≡ line_kind (between t i m)
+      → LineAt t (read_directive (as_line_kind g) (between t i m) (between t k e)) r → LineAt t (judged (between t i m) (between t k e)) r
   unfolding judged
-  judged-short c q f g = record { is = rw (between-length t i m h, between-length t k e l, q, sym f) g.is; held = g.held }
+  judged_short c q f g = record { is = rw (between_length t i m h, between_length t k e l, q, sym f) g.is; held = g.held }
 
-pub words-none : (t : Text) (i e : ℕ) → i ≡ e → LineAt t (readWords (between t i e)) Nothing
-unfolding readWords asLine
-words-none t i e h = record { is = rw (none_between t i e h); held = tt }
+pub words_none : (t : Text) (i e : ℕ) → i ≡ e → LineAt t (read_words (between t i e)) Nothing
+unfolding read_words as_line
+words_none t i e h = record { is = rw (none_between t i e h); held = tt }
 
-pub words-some : (t : Text) (i m k e : ℕ) {r : HeldLine} → i < e → e ≤ length t → RunTo (isIn NotBlank) t i e m → RunTo (isIn Blank) t m e k
-    → LineAt t (judged (between t i m) (between t k e)) r → LineAt t (readWords (between t i e)) r
-unfolding isIn
-words-some t i m k e {r} h l f g j = record {
-  is = j.is ∙ rw (f.run_is, g.rest-is, f.rest-is) (sym (full (between t i e) (some-between t i e h l)));
+pub words_some : (t : Text) (i m k e : ℕ) {r : HeldLine} → i < e → e ≤ length t → RunTo (is_in NotBlank) t i e m → RunTo (is_in Blank) t m e k
+    → LineAt t (judged (between t i m) (between t k e)) r → LineAt t (read_words (between t i e)) r
+unfolding is_in
+words_some t i m k e {r} h l f g j = record {
+  is = j.is ∙ rw (f.run_is, g.rest_is, f.rest_is) (sym (full (between t i e) (some_between t i e h l)));
   held = j.held;
 }
   where
-    full : (s : Text) → is_empty s ≡ false → readWords s ≡ judged (run notBlank s) (rest isBlank (rest notBlank s))
+    full : (s : Text) → is_empty s ≡ false → read_words s ≡ judged (run not_blank s) (rest is_blank (rest not_blank s))
     full [] q = unfold is_empty in clash q
-    full (x ∷ s) q = unfold readWords in refl
+    full (x ∷ s) q = unfold read_words in refl
 
-module _ (t : Text) (i e end : ℕ) (l : e ≤ length t) (f : RunTo (isIn (AllBut 0x0d)) t i e end) where
-  no_return : between t i end ≡ run notCR (between t i e)
-  unfolding isIn notCR
+module _ (t : Text) (i e end : ℕ) (l : e ≤ length t) (f : RunTo (is_in (AllBut 0x0d)) t i e end) where
+  no_return : between t i end ≡ run not_cr (between t i e)
+  unfolding is_in not_cr
   no_return = f.run_is
 
-  line-length : length (run notCR (between t i e)) ≡ end - i
-  line-length = ap length (sym no_return) ∙ between-length t i end (omega (arith, f.high))
+  line_length : length (run not_cr (between t i e)) ≡ end - i
+  line_length = ap length (sym no_return) ∙ between_length t i end (omega (arith, f.high))
 
-  pub line-long : 255 < end - i → LineAt t (readLine (between t i e)) (Wrong TooMany)
-  unfolding readLine asLine
-  line-long h = record { is = rw (line-length, lt-ltb 255 (end - i) h); held = tt }
+  pub line_long : 255 < end - i → LineAt t (read_line (between t i e)) (Wrong TooMany)
+  unfolding read_line as_line
+  line_long h = record { is = rw (line_length, lt-ltb 255 (end - i) h); held = tt }
 
-  pub line_reads : {hash start stop : ℕ} {r : HeldLine} → end - i ≤ 255 → RunTo (isIn (AllBut 0x23)) t i end hash → RunTo (isIn Blank) t i hash start
-      → TrimmedEnd t start hash stop → LineAt t (readWords (between t start stop)) r → LineAt t (readLine (between t i e)) r
-  unfolding readLine trim isIn notHash
+  pub line_reads : {hash start stop : ℕ} {r : HeldLine} → end - i ≤ 255 → RunTo (is_in (AllBut 0x23)) t i end hash → RunTo (is_in Blank) t i hash start
+      → TrimmedEnd t start hash stop → LineAt t (read_words (between t start stop)) r → LineAt t (read_line (between t i e)) r
+  unfolding read_line trim is_in not_hash
   line_reads {hash} {start} {stop} {r} h g b k s = record {
-    is = s.is ∙ rw (line-length, le-ltb 255 (end - i) h, sym no_return, sym g.run_is, sym b.rest-is) (ap readWords k.is);
+    is = s.is ∙ rw (line_length, le-ltb 255 (end - i) h, sym no_return, sym g.run_is, sym b.rest_is) (ap read_words k.is);
     held = s.held;
   }

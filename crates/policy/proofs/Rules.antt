@@ -8,21 +8,21 @@ use mathlib.Core.List.{List, [], ◌∷◌, ◌++◌, map, map-append}
 use lib.ListN.{length, take, drop, get_or}
 use lib.Seq.{take-suc, take-add}
 use Rattle.text.specs.Text.{Text}
-use Rattle.er7_redact.specs.Policy.{Rule, asRule}
+use Rattle.er7_redact.specs.Policy.{Rule, as_rule}
 use Rattle.er7_redact.specs.declared.policy.Rule.{Rule as HeldRule}
-use Rattle.policy.specs.Policy.{asRules}
+use Rattle.policy.specs.Policy.{as_rules}
 
 -- the first m rules of an array: the first i, the next, and those behind it
 module _ (t : Text) (rs : List HeldRule) (i : ℕ) (z : HeldRule) where
   pub behind : ℕ → List Rule
-  behind m = map (asRule t) (take (m - (i + 1)) (drop (i + 1) rs))
+  behind m = map (as_rule t) (take (m - (i + 1)) (drop (i + 1) rs))
 
-  pub rules-step : i < length rs → asRules t rs (i + 1) ≡ asRules t rs i ++ (asRule t (get_or rs i z) ∷ [])
-  unfolding asRules
-  rules-step h = rw (add-one, take-suc rs i z h) (map-append (asRule t) (take i rs) (get_or rs i z ∷ []))
+  pub rules_step : i < length rs → as_rules t rs (i + 1) ≡ as_rules t rs i ++ (as_rule t (get_or rs i z) ∷ [])
+  unfolding as_rules
+  rules_step h = rw (add-one, take-suc rs i z h) (map-append (as_rule t) (take i rs) (get_or rs i z ∷ []))
 
-  pub rules-split : (m : ℕ) → i < m → m ≤ length rs → asRules t rs m ≡ asRules t rs (i + 1) ++ behind m
-  unfolding asRules behind
-  rules-split m h l =
+  pub rules_split : (m : ℕ) → i < m → m ≤ length rs → as_rules t rs m ≡ as_rules t rs (i + 1) ++ behind m
+  unfolding as_rules behind
+  rules_split m h l =
       let n : m ≡ i + 1 + (m - (i + 1)) = omega arith in
-      ap (λ k. map (asRule t) (take k rs)) n ∙ rw (take-add (i + 1) (m - (i + 1)) rs) (map-append (asRule t) (take (i + 1) rs) (take (m - (i + 1)) (drop (i + 1) rs)))
+      ap (λ k. map (as_rule t) (take k rs)) n ∙ rw (take-add (i + 1) (m - (i + 1)) rs) (map-append (as_rule t) (take (i + 1) rs) (take (m - (i + 1)) (drop (i + 1) rs)))

@@ -2,15 +2,15 @@
 use Rattle.std.specs.Prelude.{◌≡◌, ℕ, ◌≤◌}
 use Rattle.std.proofs.Math.Option.{Option, none, some}
 use Rattle.text.specs.Text.{Text, between}
-use Rattle.text.specs.Characters.{trimEnd}
-use Rattle.er7.specs.Path.{Path, asPath, PathHeld}
+use Rattle.text.specs.Characters.{trim_end}
+use Rattle.er7.specs.Path.{Path, as_path, PathHeld}
 use Rattle.er7.specs.declared.path.ParsedPath.{ParsedPath}
 use Rattle.er7.specs.declared.path.ParsedPath.TheVariants as Paths
-use Rattle.er7_redact.specs.Action.{ActionRead, is-action, no-action, asAction, ActionHeld}
+use Rattle.er7_redact.specs.Action.{ActionRead, is_action, no_action, as_action, ActionHeld}
 use Rattle.er7_redact.specs.declared.action.Action.{Action as HeldAction}
 use Rattle.er7_redact.specs.declared.action.ParsedAction.{ParsedAction}
 use Rattle.er7_redact.specs.declared.action.ParsedAction.TheVariants as Actions
-use Rattle.er7_redact.specs.Policy.{asRule, asPosture}
+use Rattle.er7_redact.specs.Policy.{as_rule, as_posture}
 use Rattle.er7_redact.specs.declared.policy.Rule.{Rule as HeldRule}
 use Rattle.er7_redact.specs.declared.policy.Posture.{Posture as HeldPosture}
 use Rattle.er7_redact.specs.declared.policy.Posture.TheVariants as Postures
@@ -22,36 +22,36 @@ use Rattle.policy.specs.declared.line.LineRead.TheVariants as LineReads
 use Rattle.policy.specs.declared.line.LineKind.{LineKind as HeldLineKind}
 use Rattle.policy.specs.declared.line.LineKind.TheVariants as LineKinds
 
-unfoldable pub asLineKind : HeldLineKind → LineKind
-asLineKind LineKinds.Accept = accept-kind
-asLineKind LineKinds.Reject = reject-kind
-asLineKind LineKinds.Unrecognised = unrecognised-kind
-asLineKind LineKinds.KnownValues = known-values-kind
-asLineKind LineKinds.Star = star-kind
-asLineKind LineKinds.Path = path-kind
+unfoldable pub as_line_kind : HeldLineKind → LineKind
+as_line_kind LineKinds.Accept = accept-kind
+as_line_kind LineKinds.Reject = reject-kind
+as_line_kind LineKinds.Unrecognised = unrecognised-kind
+as_line_kind LineKinds.KnownValues = known-values-kind
+as_line_kind LineKinds.Star = star-kind
+as_line_kind LineKinds.Path = path-kind
 
 -- ---- what an enum stands for in the policy's text t
 
-unfoldable pub asUnrecognised : Text → HeldUnrecognised → Unrecognised
-asUnrecognised t Held.Pass = pass
-asUnrecognised t Held.Refuse = refuse
-asUnrecognised t (Held.Apply a) = apply (asAction t a)
+unfoldable pub as_unrecognised : Text → HeldUnrecognised → Unrecognised
+as_unrecognised t Held.Pass = pass
+as_unrecognised t Held.Refuse = refuse
+as_unrecognised t (Held.Apply a) = apply (as_action t a)
 
-unfoldable pub asLine : Text → HeldLine → LineRead
-asLine t LineReads.Nothing = nothing
-asLine t (LineReads.Rule r) = rule (asRule t r)
-asLine t (LineReads.Posture p) = posture (asPosture t p)
-asLine t (LineReads.Unrecognised u) = unrecognised (asUnrecognised t u)
-asLine t (LineReads.Sweep b) = sweep b
-asLine t (LineReads.Wrong e) = wrong e
+unfoldable pub as_line : Text → HeldLine → LineRead
+as_line t LineReads.Nothing = nothing
+as_line t (LineReads.Rule r) = rule (as_rule t r)
+as_line t (LineReads.Posture p) = posture (as_posture t p)
+as_line t (LineReads.Unrecognised u) = unrecognised (as_unrecognised t u)
+as_line t (LineReads.Sweep b) = sweep b
+as_line t (LineReads.Wrong e) = wrong e
 
-unfoldable pub asParsedAction : Text → ParsedAction → ActionRead
-asParsedAction t (Actions.Parsed a) = is-action (asAction t a)
-asParsedAction t (Actions.Refused e) = no-action e
+unfoldable pub as_parsed_action : Text → ParsedAction → ActionRead
+as_parsed_action t (Actions.Parsed a) = is_action (as_action t a)
+as_parsed_action t (Actions.Refused e) = no_action e
 
-unfoldable pub asParsedPath : Text → ParsedPath → Option Path
-asParsedPath t (Paths.Parsed p) = some (asPath t p)
-asParsedPath t Paths.BadPath = none
+unfoldable pub as_parsed_path : Text → ParsedPath → Option Path
+as_parsed_path t (Paths.Parsed p) = some (as_path t p)
+as_parsed_path t Paths.BadPath = none
 
 -- ---- the names and replacements lie in the text t
 
@@ -88,28 +88,28 @@ ParsedPathHeld t Paths.BadPath = Unit {0}
 
 -- r is the posture of `reject` with the action a, and what `unrecognised` with it does
 pub record Rejecting (a : HeldAction) (r : HeldPosture) : Type 0 where
-  pub is : (t : Text) → asPosture t r ≡ rejecting (asAction t a)
+  pub is : (t : Text) → as_posture t r ≡ rejecting (as_action t a)
   pub held : (t : Text) → ActionHeld t a → PostureHeld t r
 
 pub record Applying (a : HeldAction) (r : HeldUnrecognised) : Type 0 where
-  pub is : (t : Text) → asUnrecognised t r ≡ applying (asAction t a)
+  pub is : (t : Text) → as_unrecognised t r ≡ applying (as_action t a)
   pub held : (t : Text) → ActionHeld t a → UnrecognisedHeld t r
 
 -- r is the action, the path, or the line, that was read from the text t
 pub record ActionAt (t : Text) (a : ActionRead) (r : ParsedAction) : Type 0 where
-  pub is : asParsedAction t r ≡ a
+  pub is : as_parsed_action t r ≡ a
   pub held : ParsedActionHeld t r
 
 pub record PathAt (t : Text) (p : Option Path) (r : ParsedPath) : Type 0 where
-  pub is : asParsedPath t r ≡ p
+  pub is : as_parsed_path t r ≡ p
   pub held : ParsedPathHeld t r
 
 pub record LineAt (t : Text) (said : LineRead) (r : HeldLine) : Type 0 where
-  pub is : asLine t r ≡ said
+  pub is : as_line t r ≡ said
   pub held : LineHeld t r
 
 -- r is where the text from index i to index e ends without the blanks at its end
 pub record TrimmedEnd (t : Text) (i e r : ℕ) : Type 0 where
   pub low : i ≤ r
   pub high : r ≤ e
-  pub is : between t i r ≡ trimEnd (between t i e)
+  pub is : between t i r ≡ trim_end (between t i e)

@@ -1,35 +1,35 @@
 -- What the struct of a policy stands for. Assumes nothing: these are definitions.
 use Rattle.std.specs.Prelude.{◌≡◌, List, map, ℕ, ◌≤◌, ◌<◌, length, take, get_or}
 use Rattle.text.specs.Text.{Text}
-use Rattle.er7_redact.specs.Policy.{Rule, asRule, asPosture}
+use Rattle.er7_redact.specs.Policy.{Rule, as_rule, as_posture}
 use Rattle.er7_redact.specs.declared.policy.Rule.{Rule as HeldRule}
-use Rattle.policy_model.specs.Policy.{Policy, PolicyRead, read, refused, readPolicy}
+use Rattle.policy_model.specs.Policy.{Policy, PolicyRead, read, refused, read_policy}
 use Rattle.policy.specs.declared.policy.Policy.{Policy as HeldPolicy}
 use Rattle.policy.specs.declared.policy.ParsedPolicy.{ParsedPolicy}
 use Rattle.policy.specs.declared.policy.Verdict.{Verdict}
 use Rattle.policy.specs.declared.policy.Verdict.TheVariants.{Read, Refused}
-use Rattle.policy.specs.Line.{asUnrecognised, RuleHeld, PostureHeld, UnrecognisedHeld}
+use Rattle.policy.specs.Line.{as_unrecognised, RuleHeld, PostureHeld, UnrecognisedHeld}
 use Rattle.refusal.specs.Limits.{RULES_MAX}
 
 -- the first n rules of an array, and the policy, in the policy's text t
-unfoldable pub asRules : Text → List HeldRule → ℕ → List Rule
-asRules t rs n = map (asRule t) (take n rs)
+unfoldable pub as_rules : Text → List HeldRule → ℕ → List Rule
+as_rules t rs n = map (as_rule t) (take n rs)
 
-unfoldable pub asPolicy : Text → HeldPolicy → Policy
-asPolicy t p =
+unfoldable pub as_policy : Text → HeldPolicy → Policy
+as_policy t p =
     record {
-      rules = asRules t p.rules p.count;
-      posture = asPosture t p.posture;
-      unrecognised = asUnrecognised t p.unrecognised;
+      rules = as_rules t p.rules p.count;
+      posture = as_posture t p.posture;
+      unrecognised = as_unrecognised t p.unrecognised;
       sweep = p.sweep;
     }
 
-unfoldable pub asVerdict : Policy → Verdict → PolicyRead
-asVerdict p Read = read p
-asVerdict p (Refused e n) = refused e n
+unfoldable pub as_verdict : Policy → Verdict → PolicyRead
+as_verdict p Read = read p
+as_verdict p (Refused e n) = refused e n
 
-unfoldable pub asRead : Text → ParsedPolicy → PolicyRead
-asRead t r = asVerdict (asPolicy t r.policy) r.verdict
+unfoldable pub as_read : Text → ParsedPolicy → PolicyRead
+as_read t r = as_verdict (as_policy t r.policy) r.verdict
 
 -- the names and replacements of the first n rules lie in t
 pub record RulesHeld (t : Text) (rs : List HeldRule) (n : ℕ) : Type 0 where
@@ -45,5 +45,5 @@ pub record PolicyHeld (t : Text) (p : HeldPolicy) : Type 0 where
 
 -- r is what the text t reads as
 pub record PolicyIs (t : Text) (r : ParsedPolicy) : Type 0 where
-  pub is : asRead t r ≡ readPolicy t
+  pub is : as_read t r ≡ read_policy t
   pub held : PolicyHeld t r.policy

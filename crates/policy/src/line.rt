@@ -1,10 +1,10 @@
 // A policy's lines, and what each says.
 ghost use Rattle.std.specs.Prelude.{◌≡◌, ◌||◌, ◌≤◌, length};
-ghost use Rattle.text.specs.Text.{bytes, isWord, between};
-ghost use Rattle.er7.specs.Path.{readPath};
-ghost use Rattle.er7_redact.specs.Action.{asAction, ActionHeld, readAction};
+ghost use Rattle.text.specs.Text.{bytes, is_word, between};
+ghost use Rattle.er7.specs.Path.{read_path};
+ghost use Rattle.er7_redact.specs.Action.{as_action, ActionHeld, read_action};
 ghost use Rattle.policy_model.specs.Policy as M;
-ghost use Rattle.policy.specs.Line.{asLineKind, Rejecting, Applying, ActionAt, PathAt, LineAt, TrimmedEnd};
+ghost use Rattle.policy.specs.Line.{as_line_kind, Rejecting, Applying, ActionAt, PathAt, LineAt, TrimmedEnd};
 
 use er7::path;
 use er7::path::ParsedPath;
@@ -46,14 +46,14 @@ pub enum LineKind {
 
 // Whether w is `unrecognised`, in either spelling.
 fn is_unrecognised(w: &[u8]) -> bool
-    ensures { result ≡ isWord w.now (bytes "unrecognised") || isWord w.now (bytes "unrecognized") }
+    ensures { result ≡ is_word w.now (bytes "unrecognised") || is_word w.now (bytes "unrecognized") }
 {
     is_word(w, b"unrecognised") | is_word(w, b"unrecognized")
 }
 
 // What a line's first word picks.
 fn line_kind(w: &[u8]) -> LineKind
-    ensures { asLineKind result ≡ M.lineKind w.now }
+    ensures { as_line_kind result ≡ M.line_kind w.now }
 {
     if is_word(w, b"accept") {
         return LineKind::Accept;
@@ -96,7 +96,7 @@ fn applying(a: Action) -> Unrecognised
 // The action that stands in text from index i to index e, with no blanks around it.
 fn parse_action(text: &[u8], i: usize, e: usize) -> ParsedAction
     requires { (i ≤ e) × (e ≤ length text.now) }
-    ensures { ActionAt text.now (readAction (between text.now i e)) result }
+    ensures { ActionAt text.now (read_action (between text.now i e)) result }
 {
     action::parse(&text[i..e], i)
 }
@@ -104,7 +104,7 @@ fn parse_action(text: &[u8], i: usize, e: usize) -> ParsedAction
 // The path that stands in text from index i to index e.
 fn path_at(text: &[u8], i: usize, e: usize) -> ParsedPath
     requires { (i ≤ e) × (e ≤ length text.now) }
-    ensures { PathAt text.now (readPath (between text.now i e)) result }
+    ensures { PathAt text.now (read_path (between text.now i e)) result }
 {
     path::parse(&text[i..e], i)
 }
@@ -112,7 +112,7 @@ fn path_at(text: &[u8], i: usize, e: usize) -> ParsedPath
 // `accept` with what stands from index i to index e.
 fn read_accept(text: &[u8], i: usize, e: usize) -> LineRead
     requires { (i ≤ e) × (e ≤ length text.now) }
-    ensures { LineAt text.now (M.readAccept (between text.now i e)) result }
+    ensures { LineAt text.now (M.read_accept (between text.now i e)) result }
 {
     if i == e {
         return LineRead::Posture(Posture::Accept);
@@ -123,7 +123,7 @@ fn read_accept(text: &[u8], i: usize, e: usize) -> LineRead
 // `reject` with what stands from index i to index e.
 fn read_reject(text: &[u8], i: usize, e: usize) -> LineRead
     requires { (i ≤ e) × (e ≤ length text.now) }
-    ensures { LineAt text.now (M.readReject (between text.now i e)) result }
+    ensures { LineAt text.now (M.read_reject (between text.now i e)) result }
 {
     if i == e {
         return LineRead::Posture(Posture::Reject(Action::Replace { start: 0, len: 0 }));
@@ -137,7 +137,7 @@ fn read_reject(text: &[u8], i: usize, e: usize) -> LineRead
 // `unrecognised` with what stands from index i to index e.
 fn read_unrecognised(text: &[u8], i: usize, e: usize) -> LineRead
     requires { (i ≤ e) × (e ≤ length text.now) }
-    ensures { LineAt text.now (M.readUnrecognised (between text.now i e)) result }
+    ensures { LineAt text.now (M.read_unrecognised (between text.now i e)) result }
 {
     if i == e {
         return LineRead::Wrong(Refusal::BadDirective);
@@ -157,7 +157,7 @@ fn read_unrecognised(text: &[u8], i: usize, e: usize) -> LineRead
 // `Known-values` with what stands from index i to index e.
 fn read_known_values(text: &[u8], i: usize, e: usize) -> LineRead
     requires { (i ≤ e) × (e ≤ length text.now) }
-    ensures { LineAt text.now (M.readKnownValues (between text.now i e)) result }
+    ensures { LineAt text.now (M.read_known_values (between text.now i e)) result }
 {
     if is_word(&text[i..e], b"on") {
         return LineRead::Sweep(true);
@@ -171,7 +171,7 @@ fn read_known_values(text: &[u8], i: usize, e: usize) -> LineRead
 // The action a at the path that stands from index i to index e.
 fn with_path(text: &[u8], i: usize, e: usize, a: Action) -> LineRead
     requires { (i ≤ e) × (e ≤ length text.now) × ActionHeld text.now a }
-    ensures { LineAt text.now (M.withPath (asAction text.now a) (readPath (between text.now i e))) result }
+    ensures { LineAt text.now (M.with_path (as_action text.now a) (read_path (between text.now i e))) result }
 {
     match path_at(text, i, e) {
         ParsedPath::Parsed(path) => LineRead::Rule(Rule { path, action: a }),
@@ -182,7 +182,7 @@ fn with_path(text: &[u8], i: usize, e: usize, a: Action) -> LineRead
 // A rule: its path stands from index i to index m, its action from index k to index e.
 fn read_rule(text: &[u8], i: usize, m: usize, k: usize, e: usize) -> LineRead
     requires { (i ≤ m) × (m ≤ k) × (k ≤ e) × (e ≤ length text.now) }
-    ensures { LineAt text.now (M.readRule (between text.now i m) (between text.now k e)) result }
+    ensures { LineAt text.now (M.read_rule (between text.now i m) (between text.now k e)) result }
 {
     match parse_action(text, k, e) {
         ParsedAction::Parsed(a) => with_path(text, i, m, a),
@@ -195,7 +195,7 @@ fn read_rule(text: &[u8], i: usize, m: usize, k: usize, e: usize) -> LineRead
 // A line whose first word, from index i to index m, picks the head, and whose rest stands from index k to index e.
 fn read_directive(kind: LineKind, text: &[u8], i: usize, m: usize, k: usize, e: usize) -> LineRead
     requires { (i ≤ m) × (m ≤ k) × (k ≤ e) × (e ≤ length text.now) }
-    ensures { LineAt text.now (M.readDirective (asLineKind kind) (between text.now i m) (between text.now k e)) result }
+    ensures { LineAt text.now (M.read_directive (as_line_kind kind) (between text.now i m) (between text.now k e)) result }
 {
     match kind {
         LineKind::Accept => read_accept(text, k, e),
@@ -221,7 +221,7 @@ fn judged(text: &[u8], i: usize, m: usize, k: usize, e: usize) -> LineRead
 // What the text from index i to index e says, which has no comment and no blanks around it.
 fn read_words(text: &[u8], i: usize, e: usize) -> LineRead
     requires { (i ≤ e) × (e ≤ length text.now) }
-    ensures { LineAt text.now (M.readWords (between text.now i e)) result }
+    ensures { LineAt text.now (M.read_words (between text.now i e)) result }
 {
     if i == e {
         return LineRead::Nothing;
@@ -249,7 +249,7 @@ fn trimmed_end(text: &[u8], i: usize, e: usize) -> usize
 // What the line from index i to index e says; a CR before its LF is no part of it.
 pub fn read_line(text: &[u8], i: usize, e: usize) -> LineRead
     requires { (i ≤ e) × (e ≤ length text.now) }
-    ensures { LineAt text.now (M.readLine (between text.now i e)) result }
+    ensures { LineAt text.now (M.read_line (between text.now i e)) result }
 {
     let end = run_to(text, i, e, Class::AllBut(b'\r'));
     if 255 < end - i {

@@ -1,7 +1,7 @@
 // Policies, and how they are read.
 ghost use Rattle.std.specs.Prelude.{◌≡◌, suc, ◌≤◌, length};
 ghost use Rattle.policy.specs.Policy.{PolicyIs};
-ghost use Rattle.policy.specs.Reading.{lineFault, place_of, ruleOr, rulesIn, withLine, held_of, defaults, noRule, RefusedAs, NextLine, LinesRead};
+ghost use Rattle.policy.specs.Reading.{line_fault, place_of, rule_or, rules_in, with_line, held_of, defaults, no_rule, RefusedAs, NextLine, LinesRead};
 ghost use Rattle.refusal.specs.Limits.{INPUT_MAX};
 
 use super::line::{LineRead, Unrecognised, read_line};
@@ -54,7 +54,7 @@ pub enum Fault {
 
 // Why a line is refused that follows `count` rules.
 fn fault_of(said: LineRead, count: usize) -> Fault
-    ensures { result ≡ lineFault said count }
+    ensures { result ≡ line_fault said count }
 {
     match said {
         LineRead::Nothing => Fault::None,
@@ -83,7 +83,7 @@ fn place(count: usize) -> usize
 
 // The rule that a line says, or the one that stood in its place.
 fn rule_or(said: LineRead, old: Rule) -> Rule
-    ensures { result ≡ ruleOr said old }
+    ensures { result ≡ rule_or said old }
 {
     match said {
         LineRead::Nothing => old,
@@ -97,7 +97,7 @@ fn rule_or(said: LineRead, old: Rule) -> Rule
 
 // How many rules a line says.
 fn rules_in(said: LineRead) -> usize
-    ensures { (result ≡ rulesIn said) × (result ≤ 1) }
+    ensures { (result ≡ rules_in said) × (result ≤ 1) }
 {
     match said {
         LineRead::Nothing => 0,
@@ -111,7 +111,7 @@ fn rules_in(said: LineRead) -> usize
 
 // The defaults after a line; a later directive replaces an earlier one.
 fn with_line(d: Defaults, said: LineRead) -> Defaults
-    ensures { result ≡ withLine d said }
+    ensures { result ≡ with_line d said }
 {
     let p = d.posture;
     let u = d.unrecognised;
@@ -151,7 +151,7 @@ fn next_line(text: &[u8], e: usize) -> usize
 
 // A rule that does nothing, for the places behind the last rule.
 fn no_rule() -> Rule
-    ensures { result ≡ noRule }
+    ensures { result ≡ no_rule }
 {
     let path = Path {
         segment: 0,

@@ -5,70 +5,70 @@ use Prim.Native.Nat.{ℕ, ◌≤◌}
 use native.Mathlib.Omega.{arith}
 use borrow.Author.Tests.{eqb-true, ne_eqb, le-leb}
 use lib.Dec.{eqb, leb}
-use Rattle.text.specs.Text.{isDigit, isUpper, isLower, isAlphanumeric, isBlank, notBlank, all}
+use Rattle.text.specs.Text.{is_digit, is_upper, is_lower, is_alphanumeric, is_blank, not_blank, all}
 use Rattle.text.specs.Number.{decimal}
 use Rattle.text.proofs.Laws.{at_least, at_most, and_left, and_right}
-use Rattle.text.proofs.Decimals.{decimal-all, digit_low, digit-high}
+use Rattle.text.proofs.Decimals.{decimal_all, digit_low, digit_high}
 use Rattle.refusal.specs.Refusal.{is_plain}
-use Rattle.policy_model.specs.Policy.{notCR, notHash}
-use Rattle.policy_model.proofs.Texts.{all-implies}
+use Rattle.policy_model.specs.Policy.{not_cr, not_hash}
+use Rattle.policy_model.proofs.Texts.{all_implies}
 
 -- a byte in front of a comment
-unfoldable pub isLineByte : ℕ → Bool
-isLineByte x = is_plain x && notHash x
+unfoldable pub is_line_byte : ℕ → Bool
+is_line_byte x = is_plain x && not_hash x
 
 -- and no blank
-unfoldable pub isWordByte : ℕ → Bool
-isWordByte x = isLineByte x && notBlank x
+unfoldable pub is_word_byte : ℕ → Bool
+is_word_byte x = is_line_byte x && not_blank x
 
 module _ (x : ℕ) where
-  pub word_line : isWordByte x ≡ true → isLineByte x ≡ true
-  unfolding isWordByte
-  word_line h = and_left (isLineByte x) (notBlank x) h
+  pub word_line : is_word_byte x ≡ true → is_line_byte x ≡ true
+  unfolding is_word_byte
+  word_line h = and_left (is_line_byte x) (not_blank x) h
 
-  pub word-notBlank : isWordByte x ≡ true → notBlank x ≡ true
-  unfolding isWordByte
-  word-notBlank h = and_right (isLineByte x) (notBlank x) h
+  pub word_not_blank : is_word_byte x ≡ true → not_blank x ≡ true
+  unfolding is_word_byte
+  word_not_blank h = and_right (is_line_byte x) (not_blank x) h
 
-  pub line_plain : isLineByte x ≡ true → is_plain x ≡ true
-  unfolding isLineByte
-  line_plain h = and_left (is_plain x) (notHash x) h
+  pub line_plain : is_line_byte x ≡ true → is_plain x ≡ true
+  unfolding is_line_byte
+  line_plain h = and_left (is_plain x) (not_hash x) h
 
-  pub line-notHash : isLineByte x ≡ true → notHash x ≡ true
-  unfolding isLineByte
-  line-notHash h = and_right (is_plain x) (notHash x) h
+  pub line_not_hash : is_line_byte x ≡ true → not_hash x ≡ true
+  unfolding is_line_byte
+  line_not_hash h = and_right (is_plain x) (not_hash x) h
 
   -- neither CR nor LF
-  plain-ends : is_plain x ≡ true → (x ≡ 0x0d → ⊥) × (x ≡ 0x0a → ⊥)
+  plain_ends : is_plain x ≡ true → (x ≡ 0x0d → ⊥) × (x ≡ 0x0a → ⊥)
   unfolding is_plain
-  plain-ends h = go (eqb x 0x09) refl h
+  plain_ends h = go (eqb x 0x09) refl h
     where
       go : (b : Bool) → eqb x 0x09 ≡ b → b || leb 0x20 x && leb x 0x7e ≡ true → (x ≡ 0x0d → ⊥) × (x ≡ 0x0a → ⊥)
       go true e h = let q = eqb-true x 0x09 e in omega arith
       go false e h = let q = at_least 0x20 x 0x7e h in omega arith
 
-  pub line-notCR : isLineByte x ≡ true → notCR x ≡ true
-  unfolding notCR
-  line-notCR h = rw (ne_eqb x 0x0d (plain-ends (line_plain h)).0)
+  pub line_not_cr : is_line_byte x ≡ true → not_cr x ≡ true
+  unfolding not_cr
+  line_not_cr h = rw (ne_eqb x 0x0d (plain_ends (line_plain h)).0)
 
-  pub line-notLF : isLineByte x ≡ true → eqb x 0x0a ≡ false
-  line-notLF h = ne_eqb x 0x0a (plain-ends (line_plain h)).1
+  pub line_not_lf : is_line_byte x ≡ true → eqb x 0x0a ≡ false
+  line_not_lf h = ne_eqb x 0x0a (plain_ends (line_plain h)).1
 
-  word_byte : 0x24 ≤ x → x ≤ 0x7e → isWordByte x ≡ true
-  unfolding isWordByte isLineByte is_plain notHash notBlank isBlank
+  word_byte : 0x24 ≤ x → x ≤ 0x7e → is_word_byte x ≡ true
+  unfolding is_word_byte is_line_byte is_plain not_hash not_blank is_blank
   word_byte l h = rw (ne_eqb x 0x09 (omega arith), le-leb 0x20 x (omega arith), le-leb x 0x7e h, ne_eqb x 0x23 (omega arith), ne_eqb x 0x20 (omega arith))
 
-  digit-word : isDigit x ≡ true → isWordByte x ≡ true
-  digit-word h = let l = digit_low x h in let k = digit-high x h in word_byte (omega arith) (omega arith)
+  digit_word : is_digit x ≡ true → is_word_byte x ≡ true
+  digit_word h = let l = digit_low x h in let k = digit_high x h in word_byte (omega arith) (omega arith)
 
-  pub alphanumeric-word : isAlphanumeric x ≡ true → isWordByte x ≡ true
-  unfolding isAlphanumeric isUpper isLower
-  alphanumeric-word h = go (isDigit x) refl (isUpper x) refl h
+  pub alphanumeric_word : is_alphanumeric x ≡ true → is_word_byte x ≡ true
+  unfolding is_alphanumeric is_upper is_lower
+  alphanumeric_word h = go (is_digit x) refl (is_upper x) refl h
     where
-      go : (a : Bool) → isDigit x ≡ a → (b : Bool) → isUpper x ≡ b → a || b || isLower x ≡ true → isWordByte x ≡ true
-      go true e b f h = digit-word e
+      go : (a : Bool) → is_digit x ≡ a → (b : Bool) → is_upper x ≡ b → a || b || is_lower x ≡ true → is_word_byte x ≡ true
+      go true e b f h = digit_word e
       go false e true f h = let l = at_least 65 x 90 f in let k = at_most 65 x 90 f in word_byte (omega arith) (omega arith)
       go false e false f h = let l = at_least 97 x 122 h in let k = at_most 97 x 122 h in word_byte (omega arith) (omega arith)
 
-pub decimal-word : (n : ℕ) → all isWordByte (decimal n) ≡ true
-decimal-word n = all-implies isDigit isWordByte digit-word (decimal n) (decimal-all n)
+pub decimal_word : (n : ℕ) → all is_word_byte (decimal n) ≡ true
+decimal_word n = all_implies is_digit is_word_byte digit_word (decimal n) (decimal_all n)

@@ -1,14 +1,14 @@
 -- policy.rs: policies, how they are read, merged and printed. Assumes nothing: these are definitions.
 use Rattle.std.specs.Prelude.{Bool, true, false, not, cond, ◌||◌, List, [], ◌∷◌, ◌++◌, ℕ, suc, ◌-◌, max, length, replicate, eqb, ltb}
 use Rattle.std.proofs.Math.Option.{Option, none, some}
-use Rattle.text.specs.Text.{Text, bytes, isWord, is_empty, run}
-use Rattle.text.specs.Characters.{skipBlanks, word, behindWord, trim}
-use Rattle.er7.specs.Path.{Path, readPath, printPath}
-use Rattle.er7_redact.specs.Action.{Action, ActionRead, is-action, no-action, replace, isKeep, isNullAction, readAction, printAction}
+use Rattle.text.specs.Text.{Text, bytes, is_word, is_empty, run}
+use Rattle.text.specs.Characters.{skip_blanks, word, behind_word, trim}
+use Rattle.er7.specs.Path.{Path, read_path, print_path}
+use Rattle.er7_redact.specs.Action.{Action, ActionRead, is_action, no_action, replace, is_keep, is_null_action, read_action, print_action}
 use Rattle.er7_redact.specs.Policy.{Rule, Posture, accept, reject}
 use Rattle.refusal.specs.declared.Refusal.{Refusal}
 use Rattle.refusal.specs.declared.Refusal.TheVariants.{TooLong, ForeignByte, TooMany, BadPath, BadDirective}
-use Rattle.refusal.specs.Refusal.{tooLong, noForeign}
+use Rattle.refusal.specs.Refusal.{too_long, no_foreign}
 use Rattle.refusal.specs.declared.input.Input.TheVariants as Inputs
 use Rattle.refusal.specs.Limits.{RULES_MAX}
 
@@ -30,11 +30,11 @@ start = record { rules = []; posture = accept; unrecognised = refuse; sweep = tr
 
 -- "`reject keep` is accept"
 unfoldable pub rejecting : Action → Posture
-rejecting a = cond (isKeep a) accept (reject a)
+rejecting a = cond (is_keep a) accept (reject a)
 
 -- "unrecognised keep or null is pass"
 unfoldable pub applying : Action → Unrecognised
-applying a = cond (isKeep a || isNullAction a) pass (apply a)
+applying a = cond (is_keep a || is_null_action a) pass (apply a)
 
 -- ---- what a line says
 
@@ -51,76 +51,76 @@ pub data LineRead : Type 0 where
 pub data LineKind : Type 0 where
   accept-kind reject-kind unrecognised-kind known-values-kind star-kind path-kind : LineKind
 
-unfoldable pub lineKind : Text → LineKind
-lineKind w =
-    cond (isWord w (bytes "accept")) accept-kind
-    (cond (isWord w (bytes "reject")) reject-kind
-    (cond (isWord w (bytes "unrecognised") || isWord w (bytes "unrecognized")) unrecognised-kind
-    (cond (isWord w (bytes "known-values")) known-values-kind
-    (cond (isWord w (bytes "*")) star-kind path-kind))))
+unfoldable pub line_kind : Text → LineKind
+line_kind w =
+    cond (is_word w (bytes "accept")) accept-kind
+    (cond (is_word w (bytes "reject")) reject-kind
+    (cond (is_word w (bytes "unrecognised") || is_word w (bytes "unrecognized")) unrecognised-kind
+    (cond (is_word w (bytes "known-values")) known-values-kind
+    (cond (is_word w (bytes "*")) star-kind path-kind))))
 
 -- "missing or unreadable, in a rule or directive"
-unfoldable pub withAction : ActionRead → (Action → LineRead) → LineRead
-withAction (no-action e) f = wrong e
-withAction (is-action a) f = f a
+unfoldable pub with_action : ActionRead → (Action → LineRead) → LineRead
+with_action (no_action e) f = wrong e
+with_action (is_action a) f = f a
 
 -- "argument to accept"
-unfoldable pub readAccept : Text → LineRead
-readAccept s = cond (is_empty s) (posture accept) (wrong BadDirective)
+unfoldable pub read_accept : Text → LineRead
+read_accept s = cond (is_empty s) (posture accept) (wrong BadDirective)
 
 -- a bare `reject` writes REDACTED, as a bare `replace` does
-unfoldable pub readReject : Text → LineRead
-readReject s =
+unfoldable pub read_reject : Text → LineRead
+read_reject s =
     cond (is_empty s) (posture (reject (replace (bytes "REDACTED"))))
-    (withAction (readAction s) λ a. posture (rejecting a))
+    (with_action (read_action s) λ a. posture (rejecting a))
 
 -- "unrecognised without one"
-unfoldable pub readUnrecognised : Text → LineRead
-readUnrecognised s =
+unfoldable pub read_unrecognised : Text → LineRead
+read_unrecognised s =
     cond (is_empty s) (wrong BadDirective)
-    (cond (isWord s (bytes "refuse")) (unrecognised refuse)
-    (cond (isWord s (bytes "pass")) (unrecognised pass)
-    (withAction (readAction s) λ a. unrecognised (applying a))))
+    (cond (is_word s (bytes "refuse")) (unrecognised refuse)
+    (cond (is_word s (bytes "pass")) (unrecognised pass)
+    (with_action (read_action s) λ a. unrecognised (applying a))))
 
 -- "known-values neither on nor off"
-unfoldable pub readKnownValues : Text → LineRead
-readKnownValues s = cond (isWord s (bytes "on")) (sweep true) (cond (isWord s (bytes "off")) (sweep false) (wrong BadDirective))
+unfoldable pub read_known_values : Text → LineRead
+read_known_values s = cond (is_word s (bytes "on")) (sweep true) (cond (is_word s (bytes "off")) (sweep false) (wrong BadDirective))
 
 -- "The action is judged before the path"
-unfoldable pub withPath : Action → Option Path → LineRead
-withPath a none = wrong BadPath
-withPath a (some p) = rule (record { path = p; action = a })
+unfoldable pub with_path : Action → Option Path → LineRead
+with_path a none = wrong BadPath
+with_path a (some p) = rule (record { path = p; action = a })
 
-unfoldable pub readRule : Text → Text → LineRead
-readRule w s = withAction (readAction s) λ a. withPath a (readPath w)
+unfoldable pub read_rule : Text → Text → LineRead
+read_rule w s = with_action (read_action s) λ a. with_path a (read_path w)
 
 -- a line's first word and the rest
-unfoldable pub readDirective : LineKind → Text → Text → LineRead
-readDirective accept-kind w s = readAccept s
-readDirective reject-kind w s = readReject s
-readDirective unrecognised-kind w s = readUnrecognised s
-readDirective known-values-kind w s = readKnownValues s
-readDirective star-kind w s = wrong BadDirective
-readDirective path-kind w s = readRule w s
+unfoldable pub read_directive : LineKind → Text → Text → LineRead
+read_directive accept-kind w s = read_accept s
+read_directive reject-kind w s = read_reject s
+read_directive unrecognised-kind w s = read_unrecognised s
+read_directive known-values-kind w s = read_known_values s
+read_directive star-kind w s = wrong BadDirective
+read_directive path-kind w s = read_rule w s
 
 -- "first word over 64, rest over 80"
 unfoldable pub judged : Text → Text → LineRead
-judged w s = cond (ltb 64 (length w) || ltb 80 (length s)) (wrong TooMany) (readDirective (lineKind w) w s)
+judged w s = cond (ltb 64 (length w) || ltb 80 (length s)) (wrong TooMany) (read_directive (line_kind w) w s)
 
 -- "word and rest are each taken without comment, outer blanks and tabs"
-unfoldable pub readWords : Text → LineRead
-readWords [] = nothing
-readWords (x ∷ s) = judged (word (x ∷ s)) (skipBlanks (behindWord (x ∷ s)))
+unfoldable pub read_words : Text → LineRead
+read_words [] = nothing
+read_words (x ∷ s) = judged (word (x ∷ s)) (skip_blanks (behind_word (x ∷ s)))
 
-unfoldable pub notCR : ℕ → Bool
-notCR x = not (eqb x 0x0d)
+unfoldable pub not_cr : ℕ → Bool
+not_cr x = not (eqb x 0x0d)
 
-unfoldable pub notHash : ℕ → Bool
-notHash x = not (eqb x 0x23)
+unfoldable pub not_hash : ℕ → Bool
+not_hash x = not (eqb x 0x23)
 
 -- "`#` starts a comment"; "line over 255 bytes": "A line's length counts its comment and not its end"
-unfoldable pub readLine : Text → LineRead
-readLine l = cond (ltb 255 (length (run notCR l))) (wrong TooMany) (readWords (trim (run notHash (run notCR l))))
+unfoldable pub read_line : Text → LineRead
+read_line l = cond (ltb 255 (length (run not_cr l))) (wrong TooMany) (read_words (trim (run not_hash (run not_cr l))))
 
 -- ---- a whole policy
 
@@ -129,35 +129,35 @@ unfoldable pub push : ℕ → List Text → List Text
 push x [] = (x ∷ []) ∷ []
 push x (l ∷ ls) = (x ∷ l) ∷ ls
 
-unfoldable pub policyLines : Text → List Text
-policyLines [] = []
-policyLines (x ∷ s) = let more = policyLines s in cond (eqb x 0x0a) ([] ∷ more) (push x more)
+unfoldable pub policy_lines : Text → List Text
+policy_lines [] = []
+policy_lines (x ∷ s) = let more = policy_lines s in cond (eqb x 0x0a) ([] ∷ more) (push x more)
 
 -- a policy, or a refusal with its line
 pub data PolicyRead : Type 0 where
   read : Policy → PolicyRead
   refused : Refusal → ℕ → PolicyRead
 
-unfoldable pub withRules : Policy → List Rule → Policy
-withRules p rs = record { rules = rs; posture = p.posture; unrecognised = p.unrecognised; sweep = p.sweep }
+unfoldable pub with_rules : Policy → List Rule → Policy
+with_rules p rs = record { rules = rs; posture = p.posture; unrecognised = p.unrecognised; sweep = p.sweep }
 
 -- what line n says changes the policy, and reading goes on with it; "A later directive replaces an earlier one"; "128 rules pass"
-unfoldable pub afterLine : ℕ → Policy → LineRead → (Policy → PolicyRead) → PolicyRead
-afterLine n p nothing f = f p
-afterLine n p (rule r) f = cond (ltb (length p.rules) RULES_MAX) (f (withRules p (p.rules ++ (r ∷ [])))) (refused TooMany n)
-afterLine n p (posture x) f = f (record { rules = p.rules; posture = x; unrecognised = p.unrecognised; sweep = p.sweep })
-afterLine n p (unrecognised x) f = f (record { rules = p.rules; posture = p.posture; unrecognised = x; sweep = p.sweep })
-afterLine n p (sweep x) f = f (record { rules = p.rules; posture = p.posture; unrecognised = p.unrecognised; sweep = x })
-afterLine n p (wrong e) f = refused e n
+unfoldable pub after_line : ℕ → Policy → LineRead → (Policy → PolicyRead) → PolicyRead
+after_line n p nothing f = f p
+after_line n p (rule r) f = cond (ltb (length p.rules) RULES_MAX) (f (with_rules p (p.rules ++ (r ∷ [])))) (refused TooMany n)
+after_line n p (posture x) f = f (record { rules = p.rules; posture = x; unrecognised = p.unrecognised; sweep = p.sweep })
+after_line n p (unrecognised x) f = f (record { rules = p.rules; posture = p.posture; unrecognised = x; sweep = p.sweep })
+after_line n p (sweep x) f = f (record { rules = p.rules; posture = p.posture; unrecognised = p.unrecognised; sweep = x })
+after_line n p (wrong e) f = refused e n
 
 -- "lines downward", from number n on
-unfoldable pub readLines : ℕ → Policy → List Text → PolicyRead
-readLines n p [] = read p
-readLines n p (l ∷ ls) = afterLine n p (readLine l) λ q. readLines (suc n) q ls
+unfoldable pub read_lines : ℕ → Policy → List Text → PolicyRead
+read_lines n p [] = read p
+read_lines n p (l ∷ ls) = after_line n p (read_line l) λ q. read_lines (suc n) q ls
 
 -- "2, 3, then lines downward"
-unfoldable pub readPolicy : Text → PolicyRead
-readPolicy s = cond (tooLong s) (refused TooLong 0) (cond (noForeign Inputs.Policy s) (readLines 1 start (policyLines s)) (refused ForeignByte 0))
+unfoldable pub read_policy : Text → PolicyRead
+read_policy s = cond (too_long s) (refused TooLong 0) (cond (no_foreign Inputs.Policy s) (read_lines 1 start (policy_lines s)) (refused ForeignByte 0))
 
 -- ---- "`append` takes the second posture if at least as strict, the second unrecognised, and the sweep if either has it"
 
@@ -178,7 +178,7 @@ merged p q =
 
 unfoldable pub width : List Rule → ℕ
 width [] = 0
-width (r ∷ rs) = max (length (printPath r.path)) (width rs)
+width (r ∷ rs) = max (length (print_path r.path)) (width rs)
 
 -- blanks that fill a column of n bytes behind w, and two more
 unfoldable pub gap : ℕ → Text → Text
@@ -187,37 +187,37 @@ gap n w = replicate (suc (suc (n - length w))) 0x20
 unfoldable pub column : ℕ → Text → Text → Text
 column n w s = w ++ (gap n w ++ s)
 
-unfoldable pub ruleLine : ℕ → Rule → Text
-ruleLine n r = column n (printPath r.path) (printAction r.action)
+unfoldable pub rule_line : ℕ → Rule → Text
+rule_line n r = column n (print_path r.path) (print_action r.action)
 
-unfoldable pub ruleLines : ℕ → List Rule → List Text
-ruleLines n [] = []
-ruleLines n (r ∷ rs) = ruleLine n r ∷ ruleLines n rs
+unfoldable pub rule_lines : ℕ → List Rule → List Text
+rule_lines n [] = []
+rule_lines n (r ∷ rs) = rule_line n r ∷ rule_lines n rs
 
 -- the rules and, if there are any, an empty line
-unfoldable pub ruleBlock : List Rule → List Text
-ruleBlock [] = []
-ruleBlock (r ∷ rs) = ruleLines (width (r ∷ rs)) (r ∷ rs) ++ ([] ∷ [])
+unfoldable pub rule_block : List Rule → List Text
+rule_block [] = []
+rule_block (r ∷ rs) = rule_lines (width (r ∷ rs)) (r ∷ rs) ++ ([] ∷ [])
 
-unfoldable pub postureLine : Posture → Text
-postureLine accept = bytes "accept"
-postureLine (reject a) = column 12 (bytes "reject") (printAction a)
+unfoldable pub posture_line : Posture → Text
+posture_line accept = bytes "accept"
+posture_line (reject a) = column 12 (bytes "reject") (print_action a)
 
-unfoldable pub unrecognisedText : Unrecognised → Text
-unrecognisedText pass = bytes "pass"
-unrecognisedText refuse = bytes "refuse"
-unrecognisedText (apply a) = printAction a
+unfoldable pub unrecognised_text : Unrecognised → Text
+unrecognised_text pass = bytes "pass"
+unrecognised_text refuse = bytes "refuse"
+unrecognised_text (apply a) = print_action a
 
-unfoldable pub sweepText : Bool → Text
-sweepText true = bytes "on"
-sweepText false = bytes "off"
+unfoldable pub sweep_text : Bool → Text
+sweep_text true = bytes "on"
+sweep_text false = bytes "off"
 
 -- the three default lines always
-unfoldable pub defaultLines : Policy → List Text
-defaultLines p =
-    postureLine p.posture
-    ∷ column 12 (bytes "unrecognised") (unrecognisedText p.unrecognised)
-    ∷ column 12 (bytes "known-values") (sweepText p.sweep)
+unfoldable pub default_lines : Policy → List Text
+default_lines p =
+    posture_line p.posture
+    ∷ column 12 (bytes "unrecognised") (unrecognised_text p.unrecognised)
+    ∷ column 12 (bytes "known-values") (sweep_text p.sweep)
     ∷ []
 
 -- each line with its LF
@@ -225,5 +225,5 @@ unfoldable pub joined : List Text → Text
 joined [] = []
 joined (l ∷ ls) = l ++ (0x0a ∷ joined ls)
 
-unfoldable pub printPolicy : Policy → Text
-printPolicy p = joined (ruleBlock p.rules ++ defaultLines p)
+unfoldable pub print_policy : Policy → Text
+print_policy p = joined (rule_block p.rules ++ default_lines p)

@@ -9,214 +9,214 @@ use borrow.Author.Tests.{ne_eqb, eq-eqb}
 use lib.ListN.{length, take, drop, get_or, replicate, length-append, length-replicate}
 use lib.Seq.{take-suc, take-add}
 use Rattle.text.specs.Text.{Text, bytes, Wrote}
-use Rattle.text.proofs.Writes.{wrote_none, wrote_then, wrote-length}
-use Rattle.er7.specs.Path.{printPath}
-use Rattle.er7_redact.specs.Action.{Action, printAction, asAction}
-use Rattle.er7_redact.specs.Policy.{Rule, accept, reject, asRule, asPosture}
+use Rattle.text.proofs.Writes.{wrote_none, wrote_then, wrote_length}
+use Rattle.er7.specs.Path.{print_path}
+use Rattle.er7_redact.specs.Action.{Action, print_action, as_action}
+use Rattle.er7_redact.specs.Policy.{Rule, accept, reject, as_rule, as_posture}
 use Rattle.er7_redact.specs.declared.action.Action.{Action as HeldAction}
 use Rattle.er7_redact.specs.declared.policy.Rule.{Rule as HeldRule}
 use Rattle.er7_redact.specs.declared.policy.Posture.{Posture as HeldPosture}
 use Rattle.er7_redact.specs.declared.policy.Posture.TheVariants as Postures
-use Rattle.policy_model.specs.Policy.{Unrecognised, pass, refuse, width, gap, column, ruleLine, ruleLines, postureLine, unrecognisedText, sweepText, joined}
+use Rattle.policy_model.specs.Policy.{Unrecognised, pass, refuse, width, gap, column, rule_line, rule_lines, posture_line, unrecognised_text, sweep_text, joined}
 use Rattle.policy.specs.declared.line.Unrecognised.{Unrecognised as HeldUnrecognised}
 use Rattle.policy.specs.declared.line.Unrecognised.TheVariants as Held
-use Rattle.policy.specs.Line.{asUnrecognised}
-use Rattle.policy.specs.Policy.{asRules}
-use Rattle.policy.proofs.Rules.{behind, rules-step, rules-split}
-use Rattle.policy_print.specs.Display.{withLF, ruleText, rulesText, blankLine, unrecognisedLine, sweepLine}
+use Rattle.policy.specs.Line.{as_unrecognised}
+use Rattle.policy.specs.Policy.{as_rules}
+use Rattle.policy.proofs.Rules.{behind, rules_step, rules_split}
+use Rattle.policy_print.specs.Display.{with_lf, rule_text, rules_text, blank_line, unrecognised_line, sweep_line}
 
 -- ---- a line that ends in what is printed
 
-reject-line : (a : Action) → withLF (postureLine (reject a)) ≡ bytes "reject        " ++ (printAction a ++ (0x0a ∷ []))
-unfolding withLF postureLine column gap bytes
-reject-line a = refl
+reject_line : (a : Action) → with_lf (posture_line (reject a)) ≡ bytes "reject        " ++ (print_action a ++ (0x0a ∷ []))
+unfolding with_lf posture_line column gap bytes
+reject_line a = refl
 
-unrecognised-line : (u : Unrecognised) → withLF (unrecognisedLine u) ≡ bytes "unrecognised  " ++ (unrecognisedText u ++ (0x0a ∷ []))
-unfolding withLF unrecognisedLine column gap bytes
-unrecognised-line u = refl
+unrecognised_line_lem : (u : Unrecognised) → with_lf (unrecognised_line u) ≡ bytes "unrecognised  " ++ (unrecognised_text u ++ (0x0a ∷ []))
+unfolding with_lf unrecognised_line column gap bytes
+unrecognised_line_lem u = refl
 
-ended-length : (w s : Text) → length (w ++ (s ++ (0x0a ∷ []))) ≡ length w + (length s + 1)
-ended-length w s = length-append w (s ++ (0x0a ∷ [])) ∙ rw (length-append s (0x0a ∷ []))
+ended_length : (w s : Text) → length (w ++ (s ++ (0x0a ∷ []))) ≡ length w + (length s + 1)
+ended_length w s = length-append w (s ++ (0x0a ∷ [])) ∙ rw (length-append s (0x0a ∷ []))
 
 -- a word, what is printed behind it, and LF
-pub wrote-ended : {d d₁ d₂ d₃ w s : Text} {at k l r : ℕ} → Wrote d at w d₁ k → Wrote d₁ k s d₂ l → Wrote d₂ l (0x0a ∷ []) d₃ r
+pub wrote_ended : {d d₁ d₂ d₃ w s : Text} {at k l r : ℕ} → Wrote d at w d₁ k → Wrote d₁ k s d₂ l → Wrote d₂ l (0x0a ∷ []) d₃ r
     → Wrote d at (w ++ (s ++ (0x0a ∷ []))) d₃ r
-wrote-ended f g h = wrote_then f (wrote_then g h)
+wrote_ended f g h = wrote_then f (wrote_then g h)
 
 module _ (t : Text) (p : HeldPosture) {a : HeldAction} (e : p ≡ Postures.Reject a) where
-  rejects : withLF (postureLine (asPosture t p)) ≡ bytes "reject        " ++ (printAction (asAction t a) ++ (0x0a ∷ []))
-  unfolding asPosture
-  rejects = rw e (reject-line (asAction t a))
+  rejects : with_lf (posture_line (as_posture t p)) ≡ bytes "reject        " ++ (print_action (as_action t a) ++ (0x0a ∷ []))
+  unfolding as_posture
+  rejects = rw e (reject_line (as_action t a))
 
-  pub reject-room : length (withLF (postureLine (asPosture t p))) ≡ 14 + (length (printAction (asAction t a)) + 1)
+  pub reject_room : length (with_lf (posture_line (as_posture t p))) ≡ 14 + (length (print_action (as_action t a)) + 1)
   unfolding bytes
-  reject-room = ap length rejects ∙ ended-length (bytes "reject        ") (printAction (asAction t a))
+  reject_room = ap length rejects ∙ ended_length (bytes "reject        ") (print_action (as_action t a))
 
-  pub reject-wrote : {d d₁ d₂ d₃ : Text} {at k l r : ℕ} → Wrote d at (bytes "reject        ") d₁ k → Wrote d₁ k (printAction (asAction t a)) d₂ l
-      → Wrote d₂ l (0x0a ∷ []) d₃ r → Wrote d at (withLF (postureLine (asPosture t p))) d₃ r
-  reject-wrote f g h = rw rejects (wrote-ended f g h)
+  pub reject_wrote : {d d₁ d₂ d₃ : Text} {at k l r : ℕ} → Wrote d at (bytes "reject        ") d₁ k → Wrote d₁ k (print_action (as_action t a)) d₂ l
+      → Wrote d₂ l (0x0a ∷ []) d₃ r → Wrote d at (with_lf (posture_line (as_posture t p))) d₃ r
+  reject_wrote f g h = rw rejects (wrote_ended f g h)
 
 module _ (t : Text) (p : HeldPosture) (e : p ≡ Postures.Accept) where
-  accepts : withLF (postureLine (asPosture t p)) ≡ bytes "accept\n"
-  unfolding asPosture postureLine withLF bytes
+  accepts : with_lf (posture_line (as_posture t p)) ≡ bytes "accept\n"
+  unfolding as_posture posture_line with_lf bytes
   accepts = rw e
 
-  pub accept-room : length (withLF (postureLine (asPosture t p))) ≡ 7
+  pub accept_room : length (with_lf (posture_line (as_posture t p))) ≡ 7
   unfolding bytes
-  accept-room = ap length accepts
+  accept_room = ap length accepts
 
-  pub accept-wrote : {d d' : Text} {at r : ℕ} → Wrote d at (bytes "accept\n") d' r → Wrote d at (withLF (postureLine (asPosture t p))) d' r
-  accept-wrote f = rw accepts f
+  pub accept_wrote : {d d' : Text} {at r : ℕ} → Wrote d at (bytes "accept\n") d' r → Wrote d at (with_lf (posture_line (as_posture t p))) d' r
+  accept_wrote f = rw accepts f
 
 -- what a payload gets
 module _ (t : Text) (u : HeldUnrecognised) where
-  says-unrecognised : withLF (unrecognisedLine (asUnrecognised t u)) ≡ bytes "unrecognised  " ++ (unrecognisedText (asUnrecognised t u) ++ (0x0a ∷ []))
-  says-unrecognised = unrecognised-line (asUnrecognised t u)
+  says_unrecognised : with_lf (unrecognised_line (as_unrecognised t u)) ≡ bytes "unrecognised  " ++ (unrecognised_text (as_unrecognised t u) ++ (0x0a ∷ []))
+  says_unrecognised = unrecognised_line_lem (as_unrecognised t u)
 
-  pub unrecognised-room : length (withLF (unrecognisedLine (asUnrecognised t u))) ≡ 14 + (length (unrecognisedText (asUnrecognised t u)) + 1)
+  pub unrecognised_room : length (with_lf (unrecognised_line (as_unrecognised t u))) ≡ 14 + (length (unrecognised_text (as_unrecognised t u)) + 1)
   unfolding bytes
-  unrecognised-room = ap length says-unrecognised ∙ ended-length (bytes "unrecognised  ") (unrecognisedText (asUnrecognised t u))
+  unrecognised_room = ap length says_unrecognised ∙ ended_length (bytes "unrecognised  ") (unrecognised_text (as_unrecognised t u))
 
-  pub unrecognised-wrote : {d d₁ d₂ : Text} {at k r : ℕ} (s : Text) → unrecognisedText (asUnrecognised t u) ++ (0x0a ∷ []) ≡ s
-      → Wrote d at (bytes "unrecognised  ") d₁ k → Wrote d₁ k s d₂ r → Wrote d at (withLF (unrecognisedLine (asUnrecognised t u))) d₂ r
-  unrecognised-wrote s e f g = rw says-unrecognised (wrote_then f (rw e g))
+  pub unrecognised_wrote : {d d₁ d₂ : Text} {at k r : ℕ} (s : Text) → unrecognised_text (as_unrecognised t u) ++ (0x0a ∷ []) ≡ s
+      → Wrote d at (bytes "unrecognised  ") d₁ k → Wrote d₁ k s d₂ r → Wrote d at (with_lf (unrecognised_line (as_unrecognised t u))) d₂ r
+  unrecognised_wrote s e f g = rw says_unrecognised (wrote_then f (rw e g))
 
-  pub pass-text : u ≡ Held.Pass → unrecognisedText (asUnrecognised t u) ++ (0x0a ∷ []) ≡ bytes "pass\n"
-  unfolding asUnrecognised unrecognisedText bytes
-  pass-text e = rw e
+  pub pass_text : u ≡ Held.Pass → unrecognised_text (as_unrecognised t u) ++ (0x0a ∷ []) ≡ bytes "pass\n"
+  unfolding as_unrecognised unrecognised_text bytes
+  pass_text e = rw e
 
-  pub refuse-text : u ≡ Held.Refuse → unrecognisedText (asUnrecognised t u) ++ (0x0a ∷ []) ≡ bytes "refuse\n"
-  unfolding asUnrecognised unrecognisedText bytes
-  refuse-text e = rw e
+  pub refuse_text : u ≡ Held.Refuse → unrecognised_text (as_unrecognised t u) ++ (0x0a ∷ []) ≡ bytes "refuse\n"
+  unfolding as_unrecognised unrecognised_text bytes
+  refuse_text e = rw e
 
-  pub apply-text : {a : HeldAction} → u ≡ Held.Apply a → unrecognisedText (asUnrecognised t u) ++ (0x0a ∷ []) ≡ printAction (asAction t a) ++ (0x0a ∷ [])
-  unfolding asUnrecognised unrecognisedText
-  apply-text e = rw e
+  pub apply_text : {a : HeldAction} → u ≡ Held.Apply a → unrecognised_text (as_unrecognised t u) ++ (0x0a ∷ []) ≡ print_action (as_action t a) ++ (0x0a ∷ [])
+  unfolding as_unrecognised unrecognised_text
+  apply_text e = rw e
 
   -- the room for that text
-  pub text-room : (s : Text) → unrecognisedText (asUnrecognised t u) ++ (0x0a ∷ []) ≡ s → length (withLF (unrecognisedLine (asUnrecognised t u))) ≡ 14 + length s
-  text-room s e = unrecognised-room ∙ rw (sym (length-append (unrecognisedText (asUnrecognised t u)) (0x0a ∷ [])) ∙ ap length e)
+  pub text_room : (s : Text) → unrecognised_text (as_unrecognised t u) ++ (0x0a ∷ []) ≡ s → length (with_lf (unrecognised_line (as_unrecognised t u))) ≡ 14 + length s
+  text_room s e = unrecognised_room ∙ rw (sym (length-append (unrecognised_text (as_unrecognised t u)) (0x0a ∷ [])) ∙ ap length e)
 
-  pub apply-room : {a : HeldAction} → u ≡ Held.Apply a → length (withLF (unrecognisedLine (asUnrecognised t u))) ≡ 14 + (length (printAction (asAction t a)) + 1)
-  apply-room {a} e = text-room (printAction (asAction t a) ++ (0x0a ∷ [])) (apply-text e) ∙ rw (length-append (printAction (asAction t a)) (0x0a ∷ []))
+  pub apply_room : {a : HeldAction} → u ≡ Held.Apply a → length (with_lf (unrecognised_line (as_unrecognised t u))) ≡ 14 + (length (print_action (as_action t a)) + 1)
+  apply_room {a} e = text_room (print_action (as_action t a) ++ (0x0a ∷ [])) (apply_text e) ∙ rw (length-append (print_action (as_action t a)) (0x0a ∷ []))
 
 -- whether the sweep is on
-pub on_line : withLF (sweepLine true) ≡ bytes "known-values  on\n"
-unfolding withLF sweepLine column gap sweepText bytes
+pub on_line : with_lf (sweep_line true) ≡ bytes "known-values  on\n"
+unfolding with_lf sweep_line column gap sweep_text bytes
 on_line = refl
 
-pub off-line : withLF (sweepLine false) ≡ bytes "known-values  off\n"
-unfolding withLF sweepLine column gap sweepText bytes
-off-line = refl
+pub off_line : with_lf (sweep_line false) ≡ bytes "known-values  off\n"
+unfolding with_lf sweep_line column gap sweep_text bytes
+off_line = refl
 
 -- the empty line
-pub blank_none : (n : ℕ) → n ≡ 0 → blankLine n ≡ []
-unfolding blankLine
+pub blank_none : (n : ℕ) → n ≡ 0 → blank_line n ≡ []
+unfolding blank_line
 blank_none n e = rw (eq-eqb n 0 e)
 
-pub blank-some : (n : ℕ) → (n ≡ 0 → ⊥) → blankLine n ≡ 0x0a ∷ []
-unfolding blankLine
-blank-some n e = rw (ne_eqb n 0 e)
+pub blank_some : (n : ℕ) → (n ≡ 0 → ⊥) → blank_line n ≡ 0x0a ∷ []
+unfolding blank_line
+blank_some n e = rw (ne_eqb n 0 e)
 
 -- ---- a rule's line
 
 module _ (n : ℕ) (r : Rule) where
-  rule-parts : ruleText n r ≡ printPath r.path ++ (replicate (n - length (printPath r.path) + 2) 0x20 ++ (printAction r.action ++ (0x0a ∷ [])))
-  unfolding ruleText withLF ruleLine column gap
-  rule-parts = let e : n - length (printPath r.path) + 2 ≡ suc (suc (n - length (printPath r.path))) = omega arith in
+  rule_parts : rule_text n r ≡ print_path r.path ++ (replicate (n - length (print_path r.path) + 2) 0x20 ++ (print_action r.action ++ (0x0a ∷ [])))
+  unfolding rule_text with_lf rule_line column gap
+  rule_parts = let e : n - length (print_path r.path) + 2 ≡ suc (suc (n - length (print_path r.path))) = omega arith in
       rw (e, append_assoc, append_assoc)
 
-  pub rule-length : length (ruleText n r) ≡ length (printPath r.path) + (n - length (printPath r.path) + 2 + (length (printAction r.action) + 1))
-  rule-length =
-      let m = n - length (printPath r.path) + 2 in
-      ap length rule-parts ∙ length-append (printPath r.path) (replicate m 0x20 ++ (printAction r.action ++ (0x0a ∷ [])))
-      ∙ rw (ended-length (replicate m 0x20) (printAction r.action), length-replicate {A = ℕ} m 0x20)
+  pub rule_length : length (rule_text n r) ≡ length (print_path r.path) + (n - length (print_path r.path) + 2 + (length (print_action r.action) + 1))
+  rule_length =
+      let m = n - length (print_path r.path) + 2 in
+      ap length rule_parts ∙ length-append (print_path r.path) (replicate m 0x20 ++ (print_action r.action ++ (0x0a ∷ [])))
+      ∙ rw (ended_length (replicate m 0x20) (print_action r.action), length-replicate {A = ℕ} m 0x20)
 
-  pub rule-wrote : {d d₁ d₂ d₃ d₄ : Text} (at k l e m : ℕ) → Wrote d at (printPath r.path) d₁ k → Wrote d₁ k (replicate (n - (k - at) + 2) 0x20) d₂ l
-      → Wrote d₂ l (printAction r.action) d₃ e → Wrote d₃ e (0x0a ∷ []) d₄ m → Wrote d at (ruleText n r) d₄ m
-  rule-wrote at k l e m f g h i =
-      let q : k - at ≡ length (printPath r.path) = omega (arith, f.end) in
-      rw rule-parts (wrote_then f (wrote-ended (rw q at g) h i))
+  pub rule_wrote : {d d₁ d₂ d₃ d₄ : Text} (at k l e m : ℕ) → Wrote d at (print_path r.path) d₁ k → Wrote d₁ k (replicate (n - (k - at) + 2) 0x20) d₂ l
+      → Wrote d₂ l (print_action r.action) d₃ e → Wrote d₃ e (0x0a ∷ []) d₄ m → Wrote d at (rule_text n r) d₄ m
+  rule_wrote at k l e m f g h i =
+      let q : k - at ≡ length (print_path r.path) = omega (arith, f.end) in
+      rw rule_parts (wrote_then f (wrote_ended (rw q at g) h i))
 
 -- ---- the rules' lines
 
-pub joined-append : (xs ys : List Text) → joined (xs ++ ys) ≡ joined xs ++ joined ys
+pub joined_append : (xs ys : List Text) → joined (xs ++ ys) ≡ joined xs ++ joined ys
 unfolding joined
-joined-append [] ys = refl
-joined-append (x ∷ xs) ys = rw (joined-append xs ys, append_assoc)
+joined_append [] ys = refl
+joined_append (x ∷ xs) ys = rw (joined_append xs ys, append_assoc)
 
-lines-append : (n : ℕ) (xs ys : List Rule) → ruleLines n (xs ++ ys) ≡ ruleLines n xs ++ ruleLines n ys
-unfolding ruleLines
-lines-append n [] ys = refl
-lines-append n (x ∷ xs) ys = ap (λ (l : List Text). ruleLine n x ∷ l) (lines-append n xs ys)
+lines_append : (n : ℕ) (xs ys : List Rule) → rule_lines n (xs ++ ys) ≡ rule_lines n xs ++ rule_lines n ys
+unfolding rule_lines
+lines_append n [] ys = refl
+lines_append n (x ∷ xs) ys = ap (λ (l : List Text). rule_line n x ∷ l) (lines_append n xs ys)
 
-pub rules-append : (n : ℕ) (xs ys : List Rule) → rulesText n (xs ++ ys) ≡ rulesText n xs ++ rulesText n ys
-unfolding rulesText
-rules-append n xs ys = ap joined (lines-append n xs ys) ∙ joined-append (ruleLines n xs) (ruleLines n ys)
+pub rules_append : (n : ℕ) (xs ys : List Rule) → rules_text n (xs ++ ys) ≡ rules_text n xs ++ rules_text n ys
+unfolding rules_text
+rules_append n xs ys = ap joined (lines_append n xs ys) ∙ joined_append (rule_lines n xs) (rule_lines n ys)
 
-rules-one : (n : ℕ) (r : Rule) → rulesText n (r ∷ []) ≡ ruleText n r
-unfolding rulesText ruleLines joined ruleText withLF
-rules-one n r = refl
+rules_one : (n : ℕ) (r : Rule) → rules_text n (r ∷ []) ≡ rule_text n r
+unfolding rules_text rule_lines joined rule_text with_lf
+rules_one n r = refl
 
-pub width-append : (xs ys : List Rule) → width (xs ++ ys) ≡ max (width xs) (width ys)
+pub width_append : (xs ys : List Rule) → width (xs ++ ys) ≡ max (width xs) (width ys)
 unfolding width
-width-append [] ys = omega arith
-width-append (x ∷ xs) ys = omega (arith, width-append xs ys)
+width_append [] ys = omega arith
+width_append (x ∷ xs) ys = omega (arith, width_append xs ys)
 
 -- a column that is wide enough for all is wide enough for one
-narrow : (r : Rule) (a n b c d : ℕ) → a ≡ max b c → b ≡ max d (width (r ∷ [])) → a ≤ n → length (printPath r.path) ≤ n
+narrow : (r : Rule) (a n b c d : ℕ) → a ≡ max b c → b ≡ max d (width (r ∷ [])) → a ≤ n → length (print_path r.path) ≤ n
 unfolding width
 narrow r a n b c d e f h = omega arith
 
 -- the widest of the first i rules
 pub record WidthTo (t : Text) (rs : List HeldRule) (m i w : ℕ) : Type 0 where
   pub low : i ≤ m
-  pub is : w ≡ width (asRules t rs i)
+  pub is : w ≡ width (as_rules t rs i)
 
-pub width-start : (t : Text) (rs : List HeldRule) (m : ℕ) → WidthTo t rs m 0 0
-width-start t rs m = record { low = omega arith; is = unfold asRules width in refl }
+pub width_start : (t : Text) (rs : List HeldRule) (m : ℕ) → WidthTo t rs m 0 0
+width_start t rs m = record { low = omega arith; is = unfold as_rules width in refl }
 
-pub width-more : (t : Text) (rs : List HeldRule) (m i w : ℕ) (z : HeldRule) {l v : ℕ} → WidthTo t rs m i w → i < m → m ≤ length rs
-    → l ≡ length (printPath (asRule t (get_or rs i z)).path) → v ≡ max w l → WidthTo t rs m (i + 1) v
-width-more t rs m i w z g h k e f = record {
+pub width_more : (t : Text) (rs : List HeldRule) (m i w : ℕ) (z : HeldRule) {l v : ℕ} → WidthTo t rs m i w → i < m → m ≤ length rs
+    → l ≡ length (print_path (as_rule t (get_or rs i z)).path) → v ≡ max w l → WidthTo t rs m (i + 1) v
+width_more t rs m i w z g h k e f = record {
   low = omega arith;
-  is = f ∙ rw (rules-step t rs i z (omega arith), width-append (asRules t rs i) (asRule t (get_or rs i z) ∷ [])) (unfold width in omega (arith, g.is, e));
+  is = f ∙ rw (rules_step t rs i z (omega arith), width_append (as_rules t rs i) (as_rule t (get_or rs i z) ∷ [])) (unfold width in omega (arith, g.is, e));
 }
 
-pub width-end : {t : Text} {rs : List HeldRule} {m i w : ℕ} → WidthTo t rs m i w → m ≤ i → w ≡ width (asRules t rs m)
-width-end {t} {rs} {m} {i} {w} g h = let e : m ≡ i = omega (arith, g.low) in rw e g.is
+pub width_end : {t : Text} {rs : List HeldRule} {m i w : ℕ} → WidthTo t rs m i w → m ≤ i → w ≡ width (as_rules t rs m)
+width_end {t} {rs} {m} {i} {w} g h = let e : m ≡ i = omega (arith, g.low) in rw e g.is
 
 -- the first i rules are written
 pub record RulesTo (t : Text) (rs : List HeldRule) (m n at i : ℕ) (d d' : Text) (k : ℕ) : Type 0 where
   pub low : i ≤ m
-  pub wrote : Wrote d at (rulesText n (asRules t rs i)) d' k
+  pub wrote : Wrote d at (rules_text n (as_rules t rs i)) d' k
 
-pub rules-start : (t : Text) (rs : List HeldRule) (m n at : ℕ) (d : Text) → at ≤ length d → RulesTo t rs m n at 0 d d at
-rules-start t rs m n at d h = record { low = omega arith; wrote = unfold rulesText asRules ruleLines joined in wrote_none d at h }
+pub rules_start : (t : Text) (rs : List HeldRule) (m n at : ℕ) (d : Text) → at ≤ length d → RulesTo t rs m n at 0 d d at
+rules_start t rs m n at d h = record { low = omega arith; wrote = unfold rules_text as_rules rule_lines joined in wrote_none d at h }
 
 module _ (t : Text) (rs : List HeldRule) (m n i : ℕ) (z : HeldRule) (h : i < m) (l : m ≤ length rs) where
-  text-step : rulesText n (asRules t rs (i + 1)) ≡ rulesText n (asRules t rs i) ++ ruleText n (asRule t (get_or rs i z))
-  text-step = rw (rules-step t rs i z (omega arith)) (rules-append n (asRules t rs i) (asRule t (get_or rs i z) ∷ []) ∙ rw (rules-one n (asRule t (get_or rs i z))))
+  text_step : rules_text n (as_rules t rs (i + 1)) ≡ rules_text n (as_rules t rs i) ++ rule_text n (as_rule t (get_or rs i z))
+  text_step = rw (rules_step t rs i z (omega arith)) (rules_append n (as_rules t rs i) (as_rule t (get_or rs i z) ∷ []) ∙ rw (rules_one n (as_rule t (get_or rs i z))))
 
   -- the next rule's path fits in the column, and its line in the room
-  pub rule-narrow : width (asRules t rs m) ≤ n → length (printPath (asRule t (get_or rs i z)).path) ≤ n
-  rule-narrow w =
-      let a = ap width (rules-split t rs i z m h l) ∙ width-append (asRules t rs (i + 1)) (behind t rs i z m) in
-      let b = ap width (rules-step t rs i z (omega arith)) ∙ width-append (asRules t rs i) (asRule t (get_or rs i z) ∷ []) in
-      narrow (asRule t (get_or rs i z)) (width (asRules t rs m)) n (width (asRules t rs (i + 1))) (width (behind t rs i z m)) (width (asRules t rs i)) a b w
+  pub rule_narrow : width (as_rules t rs m) ≤ n → length (print_path (as_rule t (get_or rs i z)).path) ≤ n
+  rule_narrow w =
+      let a = ap width (rules_split t rs i z m h l) ∙ width_append (as_rules t rs (i + 1)) (behind t rs i z m) in
+      let b = ap width (rules_step t rs i z (omega arith)) ∙ width_append (as_rules t rs i) (as_rule t (get_or rs i z) ∷ []) in
+      narrow (as_rule t (get_or rs i z)) (width (as_rules t rs m)) n (width (as_rules t rs (i + 1))) (width (behind t rs i z m)) (width (as_rules t rs i)) a b w
 
-  pub rule_fits : {d d' : Text} {at k : ℕ} → RulesTo t rs m n at i d d' k → at + length (rulesText n (asRules t rs m)) ≤ length d
-      → k + length (ruleText n (asRule t (get_or rs i z))) ≤ length d'
+  pub rule_fits : {d d' : Text} {at k : ℕ} → RulesTo t rs m n at i d d' k → at + length (rules_text n (as_rules t rs m)) ≤ length d
+      → k + length (rule_text n (as_rule t (get_or rs i z))) ≤ length d'
   rule_fits {d} {d'} {at} {k} g r =
-      let a = ap (λ xs. length (rulesText n xs)) (rules-split t rs i z m h l) ∙ ap length (rules-append n (asRules t rs (i + 1)) (behind t rs i z m))
-      ∙ length-append (rulesText n (asRules t rs (i + 1))) (rulesText n (behind t rs i z m)) in
-      let b = ap length text-step ∙ length-append (rulesText n (asRules t rs i)) (ruleText n (asRule t (get_or rs i z))) in
-      omega (arith, g.wrote.end, wrote-length g.wrote)
+      let a = ap (λ xs. length (rules_text n xs)) (rules_split t rs i z m h l) ∙ ap length (rules_append n (as_rules t rs (i + 1)) (behind t rs i z m))
+      ∙ length-append (rules_text n (as_rules t rs (i + 1))) (rules_text n (behind t rs i z m)) in
+      let b = ap length text_step ∙ length-append (rules_text n (as_rules t rs i)) (rule_text n (as_rule t (get_or rs i z))) in
+      omega (arith, g.wrote.end, wrote_length g.wrote)
 
-  pub rules-more : {d d₁ d₂ : Text} {at k r : ℕ} → RulesTo t rs m n at i d d₁ k → Wrote d₁ k (ruleText n (asRule t (get_or rs i z))) d₂ r
+  pub rules_more : {d d₁ d₂ : Text} {at k r : ℕ} → RulesTo t rs m n at i d d₁ k → Wrote d₁ k (rule_text n (as_rule t (get_or rs i z))) d₂ r
       → RulesTo t rs m n at (i + 1) d d₂ r
-  rules-more g f = record { low = omega arith; wrote = rw text-step (wrote_then g.wrote f) }
+  rules_more g f = record { low = omega arith; wrote = rw text_step (wrote_then g.wrote f) }
 
-pub rules-end : {t : Text} {rs : List HeldRule} {m n at i : ℕ} {d d' : Text} {k : ℕ} → RulesTo t rs m n at i d d' k → m ≤ i
-    → Wrote d at (rulesText n (asRules t rs m)) d' k
-rules-end {t} {rs} {m} {n} {at} {i} g h = let e : m ≡ i = omega (arith, g.low) in rw e g.wrote
+pub rules_end : {t : Text} {rs : List HeldRule} {m n at i : ℕ} {d d' : Text} {k : ℕ} → RulesTo t rs m n at i d d' k → m ≤ i
+    → Wrote d at (rules_text n (as_rules t rs m)) d' k
+rules_end {t} {rs} {m} {n} {at} {i} g h = let e : m ≡ i = omega (arith, g.low) in rw e g.wrote

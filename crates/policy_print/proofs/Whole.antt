@@ -12,196 +12,196 @@ use Rattle.text.proofs.Writes.{wrote_then}
 use Rattle.er7_redact.specs.declared.action.Action.{Action as HeldAction}
 use Rattle.er7_redact.specs.declared.policy.Posture.{Posture as HeldPosture}
 use Rattle.er7_redact.specs.declared.policy.Posture.TheVariants as Postures
-use Rattle.er7_redact.specs.Policy.{Rule, Posture, asPosture}
+use Rattle.er7_redact.specs.Policy.{Rule, Posture, as_posture}
 use Rattle.refusal.specs.declared.Refusal.{Refusal}
 use Rattle.refusal.specs.declared.Refusal.TheVariants.{TooMany, NoSuchBuiltin}
 use Rattle.refusal.specs.Limits.{INPUT_MAX, RULES_MAX}
-use Rattle.policy_model.specs.Policy.{Policy, PolicyRead, read, refused, readPolicy, Unrecognised, width, postureLine, ruleBlock, defaultLines, joined, stricter, merged, printPolicy, ruleLines}
-use Rattle.policy_model.specs.Builtin.{builtinText}
-use Rattle.policy_model.proofs.PolicyReadBack.{merged-fits}
+use Rattle.policy_model.specs.Policy.{Policy, PolicyRead, read, refused, read_policy, Unrecognised, width, posture_line, rule_block, default_lines, joined, stricter, merged, print_policy, rule_lines}
+use Rattle.policy_model.specs.Builtin.{builtin_text}
+use Rattle.policy_model.proofs.PolicyReadBack.{merged_fits}
 use Rattle.policy.specs.declared.policy.Policy.{Policy as HeldPolicy}
 use Rattle.policy.specs.declared.policy.ParsedPolicy.{ParsedPolicy}
 use Rattle.policy.specs.declared.policy.Verdict.TheVariants as Verdicts
-use Rattle.policy.specs.Line.{asUnrecognised}
-use Rattle.policy.specs.Policy.{asRules, asPolicy, asVerdict, asRead, PolicyHeld, PolicyIs}
-use Rattle.policy.proofs.Reading.{rules-length}
+use Rattle.policy.specs.Line.{as_unrecognised}
+use Rattle.policy.specs.Policy.{as_rules, as_policy, as_verdict, as_read, PolicyHeld, PolicyIs}
+use Rattle.policy.proofs.Reading.{rules_length}
 use Rattle.policy_print.specs.declared.print.Printed.{Printed}
 use Rattle.policy_print.specs.declared.print.Printed.TheVariants.{Written, Refused}
-use Rattle.policy_print.specs.Display.{withLF, rulesText, blankLine, unrecognisedLine, sweepLine, defaultsText}
-use Rattle.policy_print.specs.Print.{mergedRead, appended, builtinRead, printedOf, bufferOf, PrintedIs}
-use Rattle.policy_print.proofs.Parts.{joined-append, rules-append, width-append}
+use Rattle.policy_print.specs.Display.{with_lf, rules_text, blank_line, unrecognised_line, sweep_line, defaults_text}
+use Rattle.policy_print.specs.Print.{merged_read, appended, builtin_read, printed_of, buffer_of, PrintedIs}
+use Rattle.policy_print.proofs.Parts.{joined_append, rules_append, width_append}
 
 -- ---- the parts of a printed policy
 
-defaults-parts : (p : Policy) → joined (defaultLines p) ≡ defaultsText p.posture p.unrecognised p.sweep
-unfolding joined defaultLines defaultsText withLF unrecognisedLine sweepLine
-defaults-parts p = rw (append_assoc, append_assoc)
+defaults_parts : (p : Policy) → joined (default_lines p) ≡ defaults_text p.posture p.unrecognised p.sweep
+unfolding joined default_lines defaults_text with_lf unrecognised_line sweep_line
+defaults_parts p = rw (append_assoc, append_assoc)
 
-block-parts : (rs : List Rule) → joined (ruleBlock rs) ≡ rulesText (width rs) rs ++ blankLine (length rs)
-unfolding ruleBlock
-block-parts [] = unfold joined rulesText ruleLines blankLine in refl
-block-parts (r ∷ rs) =
-    joined-append (ruleLines (width (r ∷ rs)) (r ∷ rs)) ([] ∷ []) ∙ (unfold joined rulesText blankLine in rw (ne_eqb (suc (length rs)) 0 (omega arith)))
+block_parts : (rs : List Rule) → joined (rule_block rs) ≡ rules_text (width rs) rs ++ blank_line (length rs)
+unfolding rule_block
+block_parts [] = unfold joined rules_text rule_lines blank_line in refl
+block_parts (r ∷ rs) =
+    joined_append (rule_lines (width (r ∷ rs)) (r ∷ rs)) ([] ∷ []) ∙ (unfold joined rules_text blank_line in rw (ne_eqb (suc (length rs)) 0 (omega arith)))
 
-pub policy-parts : (p : Policy) → printPolicy p ≡ rulesText (width p.rules) p.rules ++ (blankLine (length p.rules) ++ defaultsText p.posture p.unrecognised p.sweep)
-unfolding printPolicy
-policy-parts p =
-    joined-append (ruleBlock p.rules) (defaultLines p)
-    ∙ rw (block-parts p.rules, defaults-parts p) (append_assoc (rulesText (width p.rules) p.rules) (blankLine (length p.rules)) (defaultsText p.posture p.unrecognised p.sweep))
+pub policy_parts : (p : Policy) → print_policy p ≡ rules_text (width p.rules) p.rules ++ (blank_line (length p.rules) ++ defaults_text p.posture p.unrecognised p.sweep)
+unfolding print_policy
+policy_parts p =
+    joined_append (rule_block p.rules) (default_lines p)
+    ∙ rw (block_parts p.rules, defaults_parts p) (append_assoc (rules_text (width p.rules) p.rules) (blank_line (length p.rules)) (defaults_text p.posture p.unrecognised p.sweep))
 
-three-lengths : (a b c : Text) → length (a ++ (b ++ c)) ≡ length a + (length b + length c)
-three-lengths a b c = length-append a (b ++ c) ∙ rw (length-append b c)
+three_lengths : (a b c : Text) → length (a ++ (b ++ c)) ≡ length a + (length b + length c)
+three_lengths a b c = length-append a (b ++ c) ∙ rw (length-append b c)
 
-pub defaults-length : (p : Posture) (u : Unrecognised) (b : Bool)
-    → length (defaultsText p u b) ≡ length (withLF (postureLine p)) + (length (withLF (unrecognisedLine u)) + length (withLF (sweepLine b)))
-unfolding defaultsText
-defaults-length p u b = three-lengths (withLF (postureLine p)) (withLF (unrecognisedLine u)) (withLF (sweepLine b))
+pub defaults_length : (p : Posture) (u : Unrecognised) (b : Bool)
+    → length (defaults_text p u b) ≡ length (with_lf (posture_line p)) + (length (with_lf (unrecognised_line u)) + length (with_lf (sweep_line b)))
+unfolding defaults_text
+defaults_length p u b = three_lengths (with_lf (posture_line p)) (with_lf (unrecognised_line u)) (with_lf (sweep_line b))
 
-pub defaults-wrote : (p : Posture) (u : Unrecognised) (b : Bool) {d d₁ d₂ d₃ : Text} {at k l r : ℕ} → Wrote d at (withLF (postureLine p)) d₁ k
-    → Wrote d₁ k (withLF (unrecognisedLine u)) d₂ l → Wrote d₂ l (withLF (sweepLine b)) d₃ r → Wrote d at (defaultsText p u b) d₃ r
-unfolding defaultsText
-defaults-wrote p u b f g h = wrote_then f (wrote_then g h)
+pub defaults_wrote : (p : Posture) (u : Unrecognised) (b : Bool) {d d₁ d₂ d₃ : Text} {at k l r : ℕ} → Wrote d at (with_lf (posture_line p)) d₁ k
+    → Wrote d₁ k (with_lf (unrecognised_line u)) d₂ l → Wrote d₂ l (with_lf (sweep_line b)) d₃ r → Wrote d at (defaults_text p u b) d₃ r
+unfolding defaults_text
+defaults_wrote p u b f g h = wrote_then f (wrote_then g h)
 
 -- ---- one policy
 
 module _ (t : Text) (p : HeldPolicy) (h : PolicyHeld t p) where
-  rules-of : List Rule
-  rules-of = asRules t p.rules p.count
+  rules_of : List Rule
+  rules_of = as_rules t p.rules p.count
 
-  defaults-of : Text
-  defaults-of = defaultsText (asPosture t p.posture) (asUnrecognised t p.unrecognised) p.sweep
+  defaults_of : Text
+  defaults_of = defaults_text (as_posture t p.posture) (as_unrecognised t p.unrecognised) p.sweep
 
-  print-parts : printPolicy (asPolicy t p) ≡ rulesText (width rules-of) rules-of ++ (blankLine p.count ++ defaults-of)
-  unfolding asPolicy rules-of defaults-of
-  print-parts =
-      policy-parts (asPolicy t p) ∙ rw (rules-length t p.rules p.count (omega (arith, h.long, h.few)))
+  print_parts : print_policy (as_policy t p) ≡ rules_text (width rules_of) rules_of ++ (blank_line p.count ++ defaults_of)
+  unfolding as_policy rules_of defaults_of
+  print_parts =
+      policy_parts (as_policy t p) ∙ rw (rules_length t p.rules p.count (omega (arith, h.long, h.few)))
 
-  pub print-length : length (printPolicy (asPolicy t p))
-      ≡ length (rulesText (width (asRules t p.rules p.count)) (asRules t p.rules p.count))
-      + (length (blankLine p.count) + length (defaultsText (asPosture t p.posture) (asUnrecognised t p.unrecognised) p.sweep))
-  unfolding rules-of defaults-of
-  print-length = ap length print-parts ∙ three-lengths (rulesText (width rules-of) rules-of) (blankLine p.count) defaults-of
+  pub print_length : length (print_policy (as_policy t p))
+      ≡ length (rules_text (width (as_rules t p.rules p.count)) (as_rules t p.rules p.count))
+      + (length (blank_line p.count) + length (defaults_text (as_posture t p.posture) (as_unrecognised t p.unrecognised) p.sweep))
+  unfolding rules_of defaults_of
+  print_length = ap length print_parts ∙ three_lengths (rules_text (width rules_of) rules_of) (blank_line p.count) defaults_of
 
-  pub print-wrote : {d d₁ d₂ d₃ : Text} {n at k l r : ℕ} → n ≡ width (asRules t p.rules p.count) → Wrote d at (rulesText n (asRules t p.rules p.count)) d₁ k
-      → Wrote d₁ k (blankLine p.count) d₂ l → Wrote d₂ l (defaultsText (asPosture t p.posture) (asUnrecognised t p.unrecognised) p.sweep) d₃ r
-      → Wrote d at (printPolicy (asPolicy t p)) d₃ r
-  unfolding rules-of defaults-of
-  print-wrote e f g k = rw print-parts (wrote_then (rw e at f) (wrote_then g k))
+  pub print_wrote : {d d₁ d₂ d₃ : Text} {n at k l r : ℕ} → n ≡ width (as_rules t p.rules p.count) → Wrote d at (rules_text n (as_rules t p.rules p.count)) d₁ k
+      → Wrote d₁ k (blank_line p.count) d₂ l → Wrote d₂ l (defaults_text (as_posture t p.posture) (as_unrecognised t p.unrecognised) p.sweep) d₃ r
+      → Wrote d at (print_policy (as_policy t p)) d₃ r
+  unfolding rules_of defaults_of
+  print_wrote e f g k = rw print_parts (wrote_then (rw e at f) (wrote_then g k))
 
 -- ---- two policies
 
 -- the stricter posture
 module _ (s t : Text) (p q : HeldPosture) where
-  pub stricter-accept : q ≡ Postures.Accept → stricter (asPosture s p) (asPosture t q) ≡ asPosture s p
-  unfolding stricter asPosture
-  stricter-accept e = rw e
+  pub stricter_accept : q ≡ Postures.Accept → stricter (as_posture s p) (as_posture t q) ≡ as_posture s p
+  unfolding stricter as_posture
+  stricter_accept e = rw e
 
-  pub stricter-reject : {a : HeldAction} → q ≡ Postures.Reject a → stricter (asPosture s p) (asPosture t q) ≡ asPosture t q
-  unfolding stricter asPosture
-  stricter-reject e = rw e
+  pub stricter_reject : {a : HeldAction} → q ≡ Postures.Reject a → stricter (as_posture s p) (as_posture t q) ≡ as_posture t q
+  unfolding stricter as_posture
+  stricter_reject e = rw e
 
 module _ (s t : Text) (p q : HeldPolicy) (g : PolicyHeld s p) (h : PolicyHeld t q) where
   first : List Rule
-  first = asRules s p.rules p.count
+  first = as_rules s p.rules p.count
 
   second : List Rule
-  second = asRules t q.rules q.count
+  second = as_rules t q.rules q.count
 
-  merged-defaults : Text
-  merged-defaults = defaultsText (stricter (asPosture s p.posture) (asPosture t q.posture)) (asUnrecognised t q.unrecognised) (p.sweep || q.sweep)
+  merged_defaults : Text
+  merged_defaults = defaults_text (stricter (as_posture s p.posture) (as_posture t q.posture)) (as_unrecognised t q.unrecognised) (p.sweep || q.sweep)
 
-  merged-parts : printPolicy (merged (asPolicy s p) (asPolicy t q))
-      ≡ rulesText (max (width first) (width second)) first ++ (rulesText (max (width first) (width second)) second ++ (blankLine (p.count + q.count) ++ merged-defaults))
-  unfolding asPolicy merged first second merged-defaults
-  merged-parts =
-      policy-parts (merged (asPolicy s p) (asPolicy t q))
+  merged_parts : print_policy (merged (as_policy s p) (as_policy t q))
+      ≡ rules_text (max (width first) (width second)) first ++ (rules_text (max (width first) (width second)) second ++ (blank_line (p.count + q.count) ++ merged_defaults))
+  unfolding as_policy merged first second merged_defaults
+  merged_parts =
+      policy_parts (merged (as_policy s p) (as_policy t q))
       ∙ rw (
-        width-append first second,
+        width_append first second,
         length-append first second,
-        rules-length s p.rules p.count (omega (arith, g.long, g.few)),
-        rules-length t q.rules q.count (omega (arith, h.long, h.few)),
-        rules-append (max (width first) (width second)) first second,
+        rules_length s p.rules p.count (omega (arith, g.long, g.few)),
+        rules_length t q.rules q.count (omega (arith, h.long, h.few)),
+        rules_append (max (width first) (width second)) first second,
         append_assoc,
       )
 
-  pub merged-length : length (printPolicy (merged (asPolicy s p) (asPolicy t q)))
-      ≡ length (rulesText (max (width (asRules s p.rules p.count)) (width (asRules t q.rules q.count))) (asRules s p.rules p.count))
-      + (length (rulesText (max (width (asRules s p.rules p.count)) (width (asRules t q.rules q.count))) (asRules t q.rules q.count))
-      + (length (blankLine (p.count + q.count))
-      + length (defaultsText (stricter (asPosture s p.posture) (asPosture t q.posture)) (asUnrecognised t q.unrecognised) (p.sweep || q.sweep))))
-  unfolding first second merged-defaults
-  merged-length =
-      ap length merged-parts
-      ∙ length-append (rulesText (max (width first) (width second)) first) (rulesText (max (width first) (width second)) second ++ (blankLine (p.count + q.count) ++ merged-defaults))
-      ∙ rw (three-lengths (rulesText (max (width first) (width second)) second) (blankLine (p.count + q.count)) merged-defaults)
+  pub merged_length : length (print_policy (merged (as_policy s p) (as_policy t q)))
+      ≡ length (rules_text (max (width (as_rules s p.rules p.count)) (width (as_rules t q.rules q.count))) (as_rules s p.rules p.count))
+      + (length (rules_text (max (width (as_rules s p.rules p.count)) (width (as_rules t q.rules q.count))) (as_rules t q.rules q.count))
+      + (length (blank_line (p.count + q.count))
+      + length (defaults_text (stricter (as_posture s p.posture) (as_posture t q.posture)) (as_unrecognised t q.unrecognised) (p.sweep || q.sweep))))
+  unfolding first second merged_defaults
+  merged_length =
+      ap length merged_parts
+      ∙ length-append (rules_text (max (width first) (width second)) first) (rules_text (max (width first) (width second)) second ++ (blank_line (p.count + q.count) ++ merged_defaults))
+      ∙ rw (three_lengths (rules_text (max (width first) (width second)) second) (blank_line (p.count + q.count)) merged_defaults)
 
-  pub merged-wrote : {d d₁ d₂ d₃ d₄ : Text} {n at k l m r : ℕ} → n ≡ max (width (asRules s p.rules p.count)) (width (asRules t q.rules q.count))
-      → Wrote d at (rulesText n (asRules s p.rules p.count)) d₁ k → Wrote d₁ k (rulesText n (asRules t q.rules q.count)) d₂ l
-      → Wrote d₂ l (blankLine (p.count + q.count)) d₃ m
-      → Wrote d₃ m (defaultsText (stricter (asPosture s p.posture) (asPosture t q.posture)) (asUnrecognised t q.unrecognised) (p.sweep || q.sweep)) d₄ r
-      → Wrote d at (printPolicy (merged (asPolicy s p) (asPolicy t q))) d₄ r
-  unfolding first second merged-defaults
-  merged-wrote e f₁ f₂ f₃ f₄ = rw merged-parts (wrote_then (rw e at f₁) (wrote_then (rw e at f₂) (wrote_then f₃ f₄)))
+  pub merged_wrote : {d d₁ d₂ d₃ d₄ : Text} {n at k l m r : ℕ} → n ≡ max (width (as_rules s p.rules p.count)) (width (as_rules t q.rules q.count))
+      → Wrote d at (rules_text n (as_rules s p.rules p.count)) d₁ k → Wrote d₁ k (rules_text n (as_rules t q.rules q.count)) d₂ l
+      → Wrote d₂ l (blank_line (p.count + q.count)) d₃ m
+      → Wrote d₃ m (defaults_text (stricter (as_posture s p.posture) (as_posture t q.posture)) (as_unrecognised t q.unrecognised) (p.sweep || q.sweep)) d₄ r
+      → Wrote d at (print_policy (merged (as_policy s p) (as_policy t q))) d₄ r
+  unfolding first second merged_defaults
+  merged_wrote e f₁ f₂ f₃ f₄ = rw merged_parts (wrote_then (rw e at f₁) (wrote_then (rw e at f₂) (wrote_then f₃ f₄)))
 
 -- ---- texts that are read and printed
 
-pub refused-is : {o : PolicyRead} (e : Refusal) (n : ℕ) (d : Text) → o ≡ refused e n → PrintedIs o d d (Refused e n)
-unfolding printedOf bufferOf
-refused-is e n d q = record { result = rw q; buffer = rw q }
+pub refused_is : {o : PolicyRead} (e : Refusal) (n : ℕ) (d : Text) → o ≡ refused e n → PrintedIs o d d (Refused e n)
+unfolding printed_of buffer_of
+refused_is e n d q = record { result = rw q; buffer = rw q }
 
-pub printed-is : {o : PolicyRead} {d d' : Text} {r : ℕ} (p : Policy) → o ≡ read p → Wrote d 0 (printPolicy p) d' r → PrintedIs o d d' (Written r)
-unfolding printedOf bufferOf
-printed-is p q w = record { result = rw q (ap Written (w.end ∙ zero-add _)); buffer = rw q w.text }
+pub printed_is : {o : PolicyRead} {d d' : Text} {r : ℕ} (p : Policy) → o ≡ read p → Wrote d 0 (print_policy p) d' r → PrintedIs o d d' (Written r)
+unfolding printed_of buffer_of
+printed_is p q w = record { result = rw q (ap Written (w.end ∙ zero-add _)); buffer = rw q w.text }
 
 -- a verdict, and what the text reads as
 module _ (t : Text) (r : ParsedPolicy) (g : PolicyIs t r) where
-  pub read_as : r.verdict ≡ Verdicts.Read → readPolicy t ≡ read (asPolicy t r.policy)
-  unfolding asRead asVerdict
+  pub read_as : r.verdict ≡ Verdicts.Read → read_policy t ≡ read (as_policy t r.policy)
+  unfolding as_read as_verdict
   read_as e = sym g.is ∙ rw e
 
-  pub refused_as : {e : Refusal} {n : ℕ} → r.verdict ≡ Verdicts.Refused e n → readPolicy t ≡ refused e n
-  unfolding asRead asVerdict
+  pub refused_as : {e : Refusal} {n : ℕ} → r.verdict ≡ Verdicts.Refused e n → read_policy t ≡ refused e n
+  unfolding as_read as_verdict
   refused_as e = sym g.is ∙ rw e
 
-pub appended-first : (e : Refusal) (n : ℕ) {o₁ : PolicyRead} (o₂ : PolicyRead) → o₁ ≡ refused e n → appended o₁ o₂ ≡ refused e n
+pub appended_first : (e : Refusal) (n : ℕ) {o₁ : PolicyRead} (o₂ : PolicyRead) → o₁ ≡ refused e n → appended o₁ o₂ ≡ refused e n
 unfolding appended
-appended-first e n o q = rw q
+appended_first e n o q = rw q
 
-pub appended-second : (p : Policy) (e : Refusal) (n : ℕ) {o₁ o₂ : PolicyRead} → o₁ ≡ read p → o₂ ≡ refused e n → appended o₁ o₂ ≡ refused e n
+pub appended_second : (p : Policy) (e : Refusal) (n : ℕ) {o₁ o₂ : PolicyRead} → o₁ ≡ read p → o₂ ≡ refused e n → appended o₁ o₂ ≡ refused e n
 unfolding appended
-appended-second p e n q w = rw (q, w)
+appended_second p e n q w = rw (q, w)
 
-pub appended-both : (p q : Policy) {o₁ o₂ : PolicyRead} → o₁ ≡ read p → o₂ ≡ read q → appended o₁ o₂ ≡ mergedRead p q
+pub appended_both : (p q : Policy) {o₁ o₂ : PolicyRead} → o₁ ≡ read p → o₂ ≡ read q → appended o₁ o₂ ≡ merged_read p q
 unfolding appended
-appended-both p q e f = rw (e, f)
+appended_both p q e f = rw (e, f)
 
 -- the merged count
 module _ (s t : Text) (p q : HeldPolicy) (g : PolicyHeld s p) (h : PolicyHeld t q) where
-  counts : length (asPolicy s p).rules + length (asPolicy t q).rules ≡ p.count + q.count
-  unfolding asPolicy
-  counts = rw (rules-length s p.rules p.count (omega (arith, g.long, g.few)), rules-length t q.rules q.count (omega (arith, h.long, h.few)))
+  counts : length (as_policy s p).rules + length (as_policy t q).rules ≡ p.count + q.count
+  unfolding as_policy
+  counts = rw (rules_length s p.rules p.count (omega (arith, g.long, g.few)), rules_length t q.rules q.count (omega (arith, h.long, h.few)))
 
-  pub many-merged : RULES_MAX < p.count + q.count → mergedRead (asPolicy s p) (asPolicy t q) ≡ refused TooMany 0
-  unfolding mergedRead
-  many-merged l = rw (counts, lt-ltb RULES_MAX (p.count + q.count) l)
+  pub many_merged : RULES_MAX < p.count + q.count → merged_read (as_policy s p) (as_policy t q) ≡ refused TooMany 0
+  unfolding merged_read
+  many_merged l = rw (counts, lt-ltb RULES_MAX (p.count + q.count) l)
 
-  pub few-merged : p.count + q.count ≤ RULES_MAX → mergedRead (asPolicy s p) (asPolicy t q) ≡ read (merged (asPolicy s p) (asPolicy t q))
-  unfolding mergedRead
-  few-merged l = rw (counts, le-ltb RULES_MAX (p.count + q.count) l)
+  pub few_merged : p.count + q.count ≤ RULES_MAX → merged_read (as_policy s p) (as_policy t q) ≡ read (merged (as_policy s p) (as_policy t q))
+  unfolding merged_read
+  few_merged l = rw (counts, le-ltb RULES_MAX (p.count + q.count) l)
 
-  pub merged-room : readPolicy s ≡ read (asPolicy s p) → readPolicy t ≡ read (asPolicy t q) → p.count + q.count ≤ RULES_MAX
-      → length (printPolicy (merged (asPolicy s p) (asPolicy t q))) ≤ INPUT_MAX
-  merged-room e f l = merged-fits s t (asPolicy s p) (asPolicy t q) e f (omega (arith, counts))
+  pub merged_room : read_policy s ≡ read (as_policy s p) → read_policy t ≡ read (as_policy t q) → p.count + q.count ≤ RULES_MAX
+      → length (print_policy (merged (as_policy s p) (as_policy t q))) ≤ INPUT_MAX
+  merged_room e f l = merged_fits s t (as_policy s p) (as_policy t q) e f (omega (arith, counts))
 
-pub both-widths : {n a b x y : ℕ} → n ≡ max a b → a ≡ x → b ≡ y → n ≡ max x y
-both-widths e f g = e ∙ rw (f, g)
+pub both_widths : {n a b x y : ℕ} → n ≡ max a b → a ≡ x → b ≡ y → n ≡ max x y
+both_widths e f g = e ∙ rw (f, g)
 
 -- ---- the built-ins
 
-pub no-builtin : (n : ℕ) → 3 < n → builtinRead n ≡ refused NoSuchBuiltin 0
-unfolding builtinRead
-no-builtin n h = rw (lt-ltb 3 n h)
+pub no_builtin : (n : ℕ) → 3 < n → builtin_read n ≡ refused NoSuchBuiltin 0
+unfolding builtin_read
+no_builtin n h = rw (lt-ltb 3 n h)
 
-pub builtin-is : (n m : ℕ) {d d' : Text} {r : Printed} → n ≡ m → m ≤ 3 → PrintedIs (readPolicy (builtinText m)) d d' r → PrintedIs (builtinRead n) d d' r
-unfolding builtinRead
-builtin-is n m e h g = rw (e, le-ltb 3 m h) g
+pub builtin_is : (n m : ℕ) {d d' : Text} {r : Printed} → n ≡ m → m ≤ 3 → PrintedIs (read_policy (builtin_text m)) d d' r → PrintedIs (builtin_read n) d d' r
+unfolding builtin_read
+builtin_is n m e h g = rw (e, le-ltb 3 m h) g

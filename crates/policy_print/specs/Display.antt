@@ -2,27 +2,27 @@
 use Rattle.std.specs.Prelude.{Bool, cond, List, [], ◌∷◌, ◌++◌, ℕ, eqb}
 use Rattle.text.specs.Text.{Text, bytes}
 use Rattle.er7_redact.specs.Policy.{Rule, Posture}
-use Rattle.policy_model.specs.Policy.{Unrecognised, column, ruleLine, ruleLines, postureLine, unrecognisedText, sweepText, joined}
+use Rattle.policy_model.specs.Policy.{Unrecognised, column, rule_line, rule_lines, posture_line, unrecognised_text, sweep_text, joined}
 
-unfoldable pub withLF : Text → Text
-withLF l = l ++ (0x0a ∷ [])
+unfoldable pub with_lf : Text → Text
+with_lf l = l ++ (0x0a ∷ [])
 
-unfoldable pub ruleText : ℕ → Rule → Text
-ruleText n r = withLF (ruleLine n r)
+unfoldable pub rule_text : ℕ → Rule → Text
+rule_text n r = with_lf (rule_line n r)
 
-unfoldable pub rulesText : ℕ → List Rule → Text
-rulesText n rs = joined (ruleLines n rs)
+unfoldable pub rules_text : ℕ → List Rule → Text
+rules_text n rs = joined (rule_lines n rs)
 
 -- behind a number of rules
-unfoldable pub blankLine : ℕ → Text
-blankLine n = cond (eqb n 0) [] (0x0a ∷ [])
+unfoldable pub blank_line : ℕ → Text
+blank_line n = cond (eqb n 0) [] (0x0a ∷ [])
 
-unfoldable pub unrecognisedLine : Unrecognised → Text
-unrecognisedLine u = column 12 (bytes "unrecognised") (unrecognisedText u)
+unfoldable pub unrecognised_line : Unrecognised → Text
+unrecognised_line u = column 12 (bytes "unrecognised") (unrecognised_text u)
 
-unfoldable pub sweepLine : Bool → Text
-sweepLine b = column 12 (bytes "known-values") (sweepText b)
+unfoldable pub sweep_line : Bool → Text
+sweep_line b = column 12 (bytes "known-values") (sweep_text b)
 
 -- the three default lines
-unfoldable pub defaultsText : Posture → Unrecognised → Bool → Text
-defaultsText p u b = withLF (postureLine p) ++ (withLF (unrecognisedLine u) ++ withLF (sweepLine b))
+unfoldable pub defaults_text : Posture → Unrecognised → Bool → Text
+defaults_text p u b = with_lf (posture_line p) ++ (with_lf (unrecognised_line u) ++ with_lf (sweep_line b))

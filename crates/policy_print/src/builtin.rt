@@ -1,7 +1,7 @@
 // The four built-in policies, each a text that is read and printed.
 ghost use Rattle.std.specs.Prelude.{◌≤◌, length};
-ghost use Rattle.policy_model.specs.Builtin.{builtinText};
-ghost use Rattle.policy_print.specs.Print.{PrintedIs, builtinRead};
+ghost use Rattle.policy_model.specs.Builtin.{builtin_text};
+ghost use Rattle.policy_print.specs.Print.{PrintedIs, builtin_read};
 ghost use Rattle.refusal.specs.Limits.{INPUT_MAX};
 
 use super::print::{Printed, print_text};
@@ -10,7 +10,7 @@ use refusal::Refusal;
 // Prints a built-in policy to the front of out: `accept_all`, `reject_all`, `patient_identifiers`, `all_but_the_header`.
 pub fn builtin(number: u64, out: &mut [u8]) -> Printed
     requires { INPUT_MAX ≤ length out.old }
-    ensures { PrintedIs (builtinRead number) out.old out.new result }
+    ensures { PrintedIs (builtin_read number) out.old out.new result }
 {
     if 3 < number {
         return Printed::Refused(Refusal::NoSuchBuiltin, 0);

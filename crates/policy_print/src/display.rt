@@ -1,12 +1,12 @@
 // A policy's text, as `Display` prints it.
 ghost use Rattle.std.specs.Prelude.{◌≡◌, ◌+◌, ◌≤◌, max, length};
 ghost use Rattle.text.specs.Text.{Wrote};
-ghost use Rattle.er7.specs.Path.{printPath};
-ghost use Rattle.er7_redact.specs.Policy.{asRule, asPosture};
+ghost use Rattle.er7.specs.Path.{print_path};
+ghost use Rattle.er7_redact.specs.Policy.{as_rule, as_posture};
 ghost use Rattle.policy_model.specs.Policy as M;
-ghost use Rattle.policy.specs.Line.{asUnrecognised, RuleHeld, PostureHeld, UnrecognisedHeld};
-ghost use Rattle.policy.specs.Policy.{asRules, PolicyHeld};
-ghost use Rattle.policy_print.specs.Display.{withLF, ruleText, rulesText, blankLine, unrecognisedLine, sweepLine};
+ghost use Rattle.policy.specs.Line.{as_unrecognised, RuleHeld, PostureHeld, UnrecognisedHeld};
+ghost use Rattle.policy.specs.Policy.{as_rules, PolicyHeld};
+ghost use Rattle.policy_print.specs.Display.{with_lf, rule_text, rules_text, blank_line, unrecognised_line, sweep_line};
 
 use er7::path;
 use er7_redact::action;
@@ -28,7 +28,7 @@ pub fn greater(a: usize, b: usize) -> usize
 // The length of the longest printed path.
 pub fn width(policy: Policy, text: &[u8]) -> usize
     requires { PolicyHeld text.now policy }
-    ensures { result ≡ M.width (asRules text.now policy.rules policy.count) }
+    ensures { result ≡ M.width (as_rules text.now policy.rules policy.count) }
 {
     let mut w = 0;
     let mut i = 0;
@@ -44,8 +44,8 @@ pub fn width(policy: Policy, text: &[u8]) -> usize
 
 // Writes a rule's line: its path in a column of n bytes, two blanks, its action.
 fn put_rule(rule: Rule, text: &[u8], n: usize, out: &mut [u8], at: usize) -> usize
-    requires { RuleHeld text.now rule × (length (printPath (asRule text.now rule).path) ≤ n) × (at + length (ruleText n (asRule text.now rule)) ≤ length out.old) }
-    ensures { Wrote out.old at (ruleText n (asRule text.now rule)) out.new result }
+    requires { RuleHeld text.now rule × (length (print_path (as_rule text.now rule).path) ≤ n) × (at + length (rule_text n (as_rule text.now rule)) ≤ length out.old) }
+    ensures { Wrote out.old at (rule_text n (as_rule text.now rule)) out.new result }
 {
     let p = rule.path;
     let a = rule.action;
@@ -58,8 +58,8 @@ fn put_rule(rule: Rule, text: &[u8], n: usize, out: &mut [u8], at: usize) -> usi
 
 // Writes the rules' lines, with paths in a column of n bytes.
 pub fn put_rules(policy: Policy, text: &[u8], n: usize, out: &mut [u8], at: usize) -> usize
-    requires { PolicyHeld text.now policy × (M.width (asRules text.now policy.rules policy.count) ≤ n) × (at + length (rulesText n (asRules text.now policy.rules policy.count)) ≤ length out.old) }
-    ensures { Wrote out.old at (rulesText n (asRules text.now policy.rules policy.count)) out.new result }
+    requires { PolicyHeld text.now policy × (M.width (as_rules text.now policy.rules policy.count) ≤ n) × (at + length (rules_text n (as_rules text.now policy.rules policy.count)) ≤ length out.old) }
+    ensures { Wrote out.old at (rules_text n (as_rules text.now policy.rules policy.count)) out.new result }
 {
     let mut k = at;
     let mut i = 0;
@@ -73,8 +73,8 @@ pub fn put_rules(policy: Policy, text: &[u8], n: usize, out: &mut [u8], at: usiz
 
 // Writes the empty line behind `count` rules, if there are any.
 pub fn put_blank(count: usize, out: &mut [u8], at: usize) -> usize
-    requires { at + length (blankLine count) ≤ length out.old }
-    ensures { Wrote out.old at (blankLine count) out.new result }
+    requires { at + length (blank_line count) ≤ length out.old }
+    ensures { Wrote out.old at (blank_line count) out.new result }
 {
     if count == 0 {
         return at;
@@ -84,8 +84,8 @@ pub fn put_blank(count: usize, out: &mut [u8], at: usize) -> usize
 
 // Writes the posture's line.
 pub fn put_posture(posture: Posture, text: &[u8], out: &mut [u8], at: usize) -> usize
-    requires { PostureHeld text.now posture × (at + length (withLF (M.postureLine (asPosture text.now posture))) ≤ length out.old) }
-    ensures { Wrote out.old at (withLF (M.postureLine (asPosture text.now posture))) out.new result }
+    requires { PostureHeld text.now posture × (at + length (with_lf (M.posture_line (as_posture text.now posture))) ≤ length out.old) }
+    ensures { Wrote out.old at (with_lf (M.posture_line (as_posture text.now posture))) out.new result }
 {
     match posture {
         Posture::Accept => copy_at(out, at, b"accept\n"),
@@ -99,8 +99,8 @@ pub fn put_posture(posture: Posture, text: &[u8], out: &mut [u8], at: usize) -> 
 
 // Writes the line that says what a payload gets.
 pub fn put_unrecognised(u: Unrecognised, text: &[u8], out: &mut [u8], at: usize) -> usize
-    requires { UnrecognisedHeld text.now u × (at + length (withLF (unrecognisedLine (asUnrecognised text.now u))) ≤ length out.old) }
-    ensures { Wrote out.old at (withLF (unrecognisedLine (asUnrecognised text.now u))) out.new result }
+    requires { UnrecognisedHeld text.now u × (at + length (with_lf (unrecognised_line (as_unrecognised text.now u))) ≤ length out.old) }
+    ensures { Wrote out.old at (with_lf (unrecognised_line (as_unrecognised text.now u))) out.new result }
 {
     let k = copy_at(out, at, b"unrecognised  ");
     match u {
@@ -115,8 +115,8 @@ pub fn put_unrecognised(u: Unrecognised, text: &[u8], out: &mut [u8], at: usize)
 
 // Writes the line that says whether the sweep is on.
 pub fn put_sweep(sweep: bool, out: &mut [u8], at: usize) -> usize
-    requires { at + length (withLF (sweepLine sweep)) ≤ length out.old }
-    ensures { Wrote out.old at (withLF (sweepLine sweep)) out.new result }
+    requires { at + length (with_lf (sweep_line sweep)) ≤ length out.old }
+    ensures { Wrote out.old at (with_lf (sweep_line sweep)) out.new result }
 {
     if sweep {
         return copy_at(out, at, b"known-values  on\n");

@@ -1,12 +1,12 @@
 // A policy's text printed: of one policy, and of two that are merged.
 ghost use Rattle.std.specs.Prelude.{◌≡◌, ◌+◌, ◌≤◌, length};
 ghost use Rattle.text.specs.Text.{Wrote};
-ghost use Rattle.er7_redact.specs.Policy.{asPosture};
-ghost use Rattle.policy_model.specs.Policy.{read, readPolicy, stricter, merged, printPolicy};
-ghost use Rattle.policy.specs.Line.{asUnrecognised, PostureHeld, UnrecognisedHeld};
-ghost use Rattle.policy.specs.Policy.{asPolicy, PolicyHeld};
-ghost use Rattle.policy_print.specs.Display.{defaultsText};
-ghost use Rattle.policy_print.specs.Print.{PrintedIs, appended, mergedRead};
+ghost use Rattle.er7_redact.specs.Policy.{as_posture};
+ghost use Rattle.policy_model.specs.Policy.{read, read_policy, stricter, merged, print_policy};
+ghost use Rattle.policy.specs.Line.{as_unrecognised, PostureHeld, UnrecognisedHeld};
+ghost use Rattle.policy.specs.Policy.{as_policy, PolicyHeld};
+ghost use Rattle.policy_print.specs.Display.{defaults_text};
+ghost use Rattle.policy_print.specs.Print.{PrintedIs, appended, merged_read};
 ghost use Rattle.refusal.specs.Limits.{INPUT_MAX};
 
 use super::display::{
@@ -35,8 +35,8 @@ fn put_defaults(
     out: &mut [u8],
     at: usize,
 ) -> usize
-    requires { PostureHeld s.now posture × UnrecognisedHeld t.now u × (at + length (defaultsText (asPosture s.now posture) (asUnrecognised t.now u) sweep) ≤ length out.old) }
-    ensures { Wrote out.old at (defaultsText (asPosture s.now posture) (asUnrecognised t.now u) sweep) out.new result }
+    requires { PostureHeld s.now posture × UnrecognisedHeld t.now u × (at + length (defaults_text (as_posture s.now posture) (as_unrecognised t.now u) sweep) ≤ length out.old) }
+    ensures { Wrote out.old at (defaults_text (as_posture s.now posture) (as_unrecognised t.now u) sweep) out.new result }
 {
     let a = put_posture(posture, s, out, at);
     let b = put_unrecognised(u, t, out, a);
@@ -45,8 +45,8 @@ fn put_defaults(
 
 // Writes the policy, whose names and replacements stand in text, to out from index at on, and returns the index behind it.
 pub fn print(policy: Policy, text: &[u8], out: &mut [u8], at: usize) -> usize
-    requires { PolicyHeld text.now policy × (at + length (printPolicy (asPolicy text.now policy)) ≤ length out.old) }
-    ensures { Wrote out.old at (printPolicy (asPolicy text.now policy)) out.new result }
+    requires { PolicyHeld text.now policy × (at + length (print_policy (as_policy text.now policy)) ≤ length out.old) }
+    ensures { Wrote out.old at (print_policy (as_policy text.now policy)) out.new result }
 {
     let n = width(policy, text);
     let a = put_rules(policy, text, n, out, at);
@@ -67,8 +67,8 @@ fn put_merged(
     out: &mut [u8],
     at: usize,
 ) -> usize
-    requires { PostureHeld s.now p × PostureHeld t.now q × UnrecognisedHeld t.now u × (at + length (defaultsText (stricter (asPosture s.now p) (asPosture t.now q)) (asUnrecognised t.now u) sweep) ≤ length out.old) }
-    ensures { Wrote out.old at (defaultsText (stricter (asPosture s.now p) (asPosture t.now q)) (asUnrecognised t.now u) sweep) out.new result }
+    requires { PostureHeld s.now p × PostureHeld t.now q × UnrecognisedHeld t.now u × (at + length (defaults_text (stricter (as_posture s.now p) (as_posture t.now q)) (as_unrecognised t.now u) sweep) ≤ length out.old) }
+    ensures { Wrote out.old at (defaults_text (stricter (as_posture s.now p) (as_posture t.now q)) (as_unrecognised t.now u) sweep) out.new result }
 {
     match q {
         Posture::Accept => put_defaults(p, s, u, t, sweep, out, at),
@@ -78,8 +78,8 @@ fn put_merged(
 
 // Writes the merged policy of p, which stands in s, and q, which stands in t, to out from index at on.
 fn print_merged(p: Policy, s: &[u8], q: Policy, t: &[u8], out: &mut [u8], at: usize) -> usize
-    requires { PolicyHeld s.now p × PolicyHeld t.now q × (at + length (printPolicy (merged (asPolicy s.now p) (asPolicy t.now q))) ≤ length out.old) }
-    ensures { Wrote out.old at (printPolicy (merged (asPolicy s.now p) (asPolicy t.now q))) out.new result }
+    requires { PolicyHeld s.now p × PolicyHeld t.now q × (at + length (print_policy (merged (as_policy s.now p) (as_policy t.now q))) ≤ length out.old) }
+    ensures { Wrote out.old at (print_policy (merged (as_policy s.now p) (as_policy t.now q))) out.new result }
 {
     let n = greater(width(p, s), width(q, t));
     let a = put_rules(p, s, n, out, at);
@@ -94,7 +94,7 @@ fn print_merged(p: Policy, s: &[u8], q: Policy, t: &[u8], out: &mut [u8], at: us
 // Reads a policy and prints it to the front of out.
 pub fn print_text(text: &[u8], out: &mut [u8]) -> Printed
     requires { INPUT_MAX ≤ length out.old }
-    ensures { PrintedIs (readPolicy text.now) out.old out.new result }
+    ensures { PrintedIs (read_policy text.now) out.old out.new result }
 {
     let parsed = parse(text);
     let policy = parsed.policy;
@@ -107,8 +107,8 @@ pub fn print_text(text: &[u8], out: &mut [u8]) -> Printed
 
 // Prints the merged policy of p and q to the front of out, unless it has too many rules.
 fn print_both(p: Policy, s: &[u8], q: Policy, t: &[u8], out: &mut [u8]) -> Printed
-    requires { (INPUT_MAX ≤ length out.old) × PolicyHeld s.now p × PolicyHeld t.now q × (readPolicy s.now ≡ read (asPolicy s.now p)) × (readPolicy t.now ≡ read (asPolicy t.now q)) }
-    ensures { PrintedIs (mergedRead (asPolicy s.now p) (asPolicy t.now q)) out.old out.new result }
+    requires { (INPUT_MAX ≤ length out.old) × PolicyHeld s.now p × PolicyHeld t.now q × (read_policy s.now ≡ read (as_policy s.now p)) × (read_policy t.now ≡ read (as_policy t.now q)) }
+    ensures { PrintedIs (merged_read (as_policy s.now p) (as_policy t.now q)) out.old out.new result }
 {
     if RULES_MAX < p.count + q.count {
         return Printed::Refused(Refusal::TooMany, 0);
@@ -118,8 +118,8 @@ fn print_both(p: Policy, s: &[u8], q: Policy, t: &[u8], out: &mut [u8]) -> Print
 
 // Reads the second policy and prints the two merged.
 fn append_to(p: Policy, s: &[u8], t: &[u8], out: &mut [u8]) -> Printed
-    requires { (INPUT_MAX ≤ length out.old) × PolicyHeld s.now p × (readPolicy s.now ≡ read (asPolicy s.now p)) }
-    ensures { PrintedIs (appended (readPolicy s.now) (readPolicy t.now)) out.old out.new result }
+    requires { (INPUT_MAX ≤ length out.old) × PolicyHeld s.now p × (read_policy s.now ≡ read (as_policy s.now p)) }
+    ensures { PrintedIs (appended (read_policy s.now) (read_policy t.now)) out.old out.new result }
 {
     let parsed = parse(t);
     let q = parsed.policy;
@@ -133,7 +133,7 @@ fn append_to(p: Policy, s: &[u8], t: &[u8], out: &mut [u8]) -> Printed
 // Reads two policies and prints them merged to the front of out.
 pub fn append(s: &[u8], t: &[u8], out: &mut [u8]) -> Printed
     requires { INPUT_MAX ≤ length out.old }
-    ensures { PrintedIs (appended (readPolicy s.now) (readPolicy t.now)) out.old out.new result }
+    ensures { PrintedIs (appended (read_policy s.now) (read_policy t.now)) out.old out.new result }
 {
     let parsed = parse(s);
     let p = parsed.policy;

@@ -1,11 +1,11 @@
 -- The low 64 bits of a product, from the products of 32-bit halves. Assumes nothing.
 use Rattle.std.proofs.Common.{◌≡◌, ℕ, ◌+◌, ◌*◌, ◌/◌, ◌%◌, ◌^◌, ◌<◌, sym, ap, ◌∙◌, le_of_lt, mul-le-mul_right, arith}
 use native.Mathlib.Nat.{mul-add-mod_self_right}
-use Rattle.pseudonym.specs.Pseudonym.{shiftAdd, SumIsProduct}
+use Rattle.pseudonym.specs.Pseudonym.{shift_add, SumIsProduct}
 
 -- a product of two halves fits a word
-pub halves-fit : (x y : ℕ) → x < 2 ^ 32 → y < 2 ^ 32 → x * y < 2 ^ 64
-halves-fit x y hx hy = omega (arith, mul-le-mul_right y (le_of_lt hx))
+pub halves_fit : (x y : ℕ) → x < 2 ^ 32 → y < 2 ^ 32 → x * y < 2 ^ 64
+halves_fit x y hx hy = omega (arith, mul-le-mul_right y (le_of_lt hx))
 
 -- k words and m half words are what the middle products come to
 multiplied : (a₁ a₀ b₁ b₀ k m : ℕ) → a₁ * b₀ + a₀ * b₁ ≡ k * 2 ^ 32 + m
@@ -24,10 +24,10 @@ low_product a b =
 -- ---- by shift and add
 
 -- the sum of two remainders, as the code makes it
-pub sum_low : (x : ℕ) → ((x * 2 ^ 40) % 2 ^ 64 + (x * 435) % 2 ^ 64) % 2 ^ 64 ≡ shiftAdd x
-unfolding shiftAdd
+pub sum_low : (x : ℕ) → ((x * 2 ^ 40) % 2 ^ 64 + (x * 435) % 2 ^ 64) % 2 ^ 64 ≡ shift_add x
+unfolding shift_add
 sum_low x = omega arith
 
-pub sum-is-product : SumIsProduct
-unfolding shiftAdd
-sum-is-product x = omega arith
+pub sum_is_product : SumIsProduct
+unfolding shift_add
+sum_is_product x = omega arith

@@ -1,7 +1,7 @@
 -- pseudonym.rs: FNV-1a, 64 bits, and the pseudonym of a value under a key. Assumes nothing: these are definitions.
 use Rattle.std.specs.Prelude.{◌≡◌, ℕ, ◌+◌, ◌*◌, ◌%◌, ◌^◌, [], ◌∷◌, ◌++◌, bit_xor}
 use Rattle.text.specs.Text.{Text}
-use Rattle.text.specs.Number.{hexadecimal, eightBytes}
+use Rattle.text.specs.Number.{hexadecimal, eight_bytes}
 
 -- "start at 0xcbf29ce484222325"
 abbrev pub OFFSET : ℕ
@@ -15,12 +15,12 @@ unfoldable pub step : ℕ → ℕ → ℕ
 step h b = (bit_xor h b * PRIME) % 2 ^ 64
 
 -- "the product becomes the hash shifted left by 40 places, plus 435 times the hash, the low 64 bits kept"
-unfoldable pub shiftAdd : ℕ → ℕ
-shiftAdd x = (x * 2 ^ 40 + 435 * x) % 2 ^ 64
+unfoldable pub shift_add : ℕ → ℕ
+shift_add x = (x * 2 ^ 40 + 435 * x) % 2 ^ 64
 
 -- "a law equates it with the product's low 64 bits"
 abbrev pub SumIsProduct : Type 0
-SumIsProduct = (x : ℕ) → shiftAdd x ≡ (x * PRIME) % 2 ^ 64
+SumIsProduct = (x : ℕ) → shift_add x ≡ (x * PRIME) % 2 ^ 64
 
 unfoldable pub fold : ℕ → Text → ℕ
 fold h [] = h
@@ -28,4 +28,4 @@ fold h (b ∷ s) = fold (step h b) s
 
 -- "Bytes are the key's eight, highest first, then the value. The answer is 16 lower-case hexadecimal digits"
 unfoldable pub pseudonym : ℕ → Text → Text
-pseudonym key value = hexadecimal (fold OFFSET (eightBytes key ++ value))
+pseudonym key value = hexadecimal (fold OFFSET (eight_bytes key ++ value))

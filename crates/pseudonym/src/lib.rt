@@ -2,7 +2,7 @@
 ghost use Rattle.std.specs.Prelude.{◌≡◌, ◌+◌, ◌*◌, ◌%◌, ◌^◌, ◌≤◌, length, bit_xor};
 ghost use Rattle.text.specs.Text.{Wrote};
 ghost use Rattle.pseudonym.specs.Pseudonym as P;
-ghost use Rattle.pseudonym.specs.Pseudonym.{shiftAdd};
+ghost use Rattle.pseudonym.specs.Pseudonym.{shift_add};
 
 use std::num::wrapping_add_u64;
 use text::positional::{eight_bytes_at, hexadecimal_at};
@@ -24,14 +24,14 @@ pub fn wrapping_mul(a: u64, b: u64) -> u64
 
 // The low 64 bits of x times the prime, which is 2 to the 40th plus 435.
 fn times_prime(x: u64) -> u64
-    ensures { result ≡ shiftAdd x }
+    ensures { result ≡ shift_add x }
 {
     wrapping_add_u64(x << 40, wrapping_mul(x, 435))
 }
 
 // One byte more.
 pub fn step(hash: u64, byte: u8) -> u64
-    ensures { result ≡ shiftAdd (bit_xor hash byte) }
+    ensures { result ≡ shift_add (bit_xor hash byte) }
 {
     times_prime(hash ^ (byte as u64))
 }

@@ -6,33 +6,33 @@ use native.Mathlib.Omega.{arith}
 use borrow.Author.Tests.{lt-ltb, le-ltb, ltb-false}
 use Rattle.text.specs.Text.{Text, part, Wrote}
 use Rattle.text.proofs.Laws.{clash}
-use Rattle.text.proofs.Writes.{wrote-length}
-use Rattle.refusal.specs.Refusal.{tooLong}
+use Rattle.text.proofs.Writes.{wrote_length}
+use Rattle.refusal.specs.Refusal.{too_long}
 use Rattle.refusal.specs.declared.Refusal.{Refusal}
 use Rattle.refusal.specs.declared.Refusal.TheVariants.{TooLong, ReportTooLong}
 use Rattle.refusal.specs.Limits.{INPUT_MAX, LEAVES_MAX, TEXT_MAX}
-use Rattle.message_model.specs.Message.{messageOf, messageFault}
-use Rattle.message_model.proofs.Faultless.{not-too-long}
-use Rattle.message_model.proofs.PrintBack.{message-prints}
-use Rattle.message_model.proofs.Messages.{message-chains}
+use Rattle.message_model.specs.Message.{message_of, message_fault}
+use Rattle.message_model.proofs.Faultless.{not_too_long}
+use Rattle.message_model.proofs.PrintBack.{message_prints}
+use Rattle.message_model.proofs.Messages.{message_chains}
 use Rattle.policy_model.specs.Policy as Q
-use Rattle.policy_model.specs.Policy.{Policy, PolicyRead, read, readPolicy}
+use Rattle.policy_model.specs.Policy.{Policy, PolicyRead, read, read_policy}
 use Rattle.run_model.specs.Redact as R
-use Rattle.run_model.specs.Redact.{redact, redactFrom, printRows}
-use Rattle.run_model.specs.Entries.{Answer, done, refused, Redaction, RedactOutcome, outcomeWithReport, withPolicy, withoutFault, reported, withBuffers, isShort}
-use Rattle.run_model.proofs.Chains.{message-fields-first}
-use Rattle.run_model.proofs.Sizes.{redacted-fits}
+use Rattle.run_model.specs.Redact.{redact, redact_from, print_rows}
+use Rattle.run_model.specs.Entries.{Answer, done, refused, Redaction, RedactOutcome, outcome_with_report, with_policy, without_fault, reported, with_buffers, is_short}
+use Rattle.run_model.proofs.Chains.{message_fields_first}
+use Rattle.run_model.proofs.Sizes.{redacted_fits}
 use Rattle.er7_table.specs.Filling.{LeafRoom}
-use Rattle.er7_message.specs.Parsed.{faultOf, ParsedAs}
+use Rattle.er7_message.specs.Parsed.{fault_of, ParsedAs}
 use Rattle.er7_message.specs.declared.message.Layout.{Layout}
 use Rattle.er7_message.specs.declared.message.ParsedMessage.{ParsedMessage}
 use Rattle.er7_message.specs.declared.message.ParsedMessage.TheVariants as Parsed
-use Rattle.er7_render.proofs.PrintBack.{parsed-named}
-use Rattle.text.proofs.Kept.{wrote-part}
+use Rattle.er7_render.proofs.PrintBack.{parsed_named}
+use Rattle.text.proofs.Kept.{wrote_part}
 use Rattle.redact_1_run.specs.declared.core.Redacted.{Redacted}
 use Rattle.redact_1_run.specs.declared.core.Redacted.TheVariants as Run
 use Rattle.redact_1_run.specs.Ran.{Loaded, AnyLoaded, Left, RedactedIs}
-use Rattle.entries.specs.Returned.{lent, lentReport}
+use Rattle.entries.specs.Returned.{lent, lent_report}
 use Rattle.entries.proofs.Outcomes as Outcomes
 use Rattle.redact.specs.declared.redact.Answer.{Answer as Given}
 use Rattle.redact.specs.declared.redact.Answer.TheVariants.{Redacted as Whole, Refused}
@@ -40,143 +40,143 @@ use Rattle.redact.specs.Answered.{Written, AnsweredAs}
 
 -- ---- a text that was written stands at the front
 
-wrote-taken : {d d' w : Text} {n : ℕ} → Wrote d 0 w d' n → take n d' ≡ w
+wrote_taken : {d d' w : Text} {n : ℕ} → Wrote d 0 w d' n → take n d' ≡ w
 unfolding part
-wrote-taken {d} {d'} {w} {n} p = let e : n ≡ length w = omega (arith, p.end) in rw e (wrote-part p)
+wrote_taken {d} {d'} {w} {n} p = let e : n ≡ length w = omega (arith, p.end) in rw e (wrote_part p)
 
 -- ---- the message's tables
 
 -- a message without fault is short
-not-long : (t : Text) → messageFault t ≡ none → length t ≤ INPUT_MAX
-unfolding tooLong
-not-long t e = ltb-false INPUT_MAX (length t) (not-too-long t e)
+not_long : (t : Text) → message_fault t ≡ none → length t ≤ INPUT_MAX
+unfolding too_long
+not_long t e = ltb-false INPUT_MAX (length t) (not_too_long t e)
 
-module _ {message : Text} {segs cells : List ℕ} {a : ParsedMessage} (p : ParsedAs message (messageFault message) (messageOf message) segs cells a) where
-  pub no-fault : {layout : Layout} → a ≡ Parsed.Read layout → messageFault message ≡ none
-  unfolding faultOf
-  no-fault e = sym p.is ∙ rw e
+module _ {message : Text} {segs cells : List ℕ} {a : ParsedMessage} (p : ParsedAs message (message_fault message) (message_of message) segs cells a) where
+  pub no_fault : {layout : Layout} → a ≡ Parsed.Read layout → message_fault message ≡ none
+  unfolding fault_of
+  no_fault e = sym p.is ∙ rw e
 
-  pub parsed-loaded : {layout : Layout} {policy : Text} → a ≡ Parsed.Read layout → length policy ≤ INPUT_MAX → Loaded message (messageOf message) policy (length message) layout segs cells
-  parsed-loaded {layout} {policy} e h =
-      let q : ParsedAs message (messageFault message) (messageOf message) segs cells (Parsed.Read layout) = rw e at p in
-      let f = no-fault e in
+  pub parsed_loaded : {layout : Layout} {policy : Text} → a ≡ Parsed.Read layout → length policy ≤ INPUT_MAX → Loaded message (message_of message) policy (length message) layout segs cells
+  parsed_loaded {layout} {policy} e h =
+      let q : ParsedAs message (message_fault message) (message_of message) segs cells (Parsed.Read layout) = rw e at p in
+      let f = no_fault e in
       record {
         standing = q.tables;
-        prints = message-prints message f;
-        chained = message-chains message;
-        first = message-fields-first message f;
-        named = parsed-named q;
-        policy-short = h;
+        prints = message_prints message f;
+        chained = message_chains message;
+        first = message_fields_first message f;
+        named = parsed_named q;
+        policy_short = h;
         within = omega arith;
-        most = omega (arith, not-long message f);
+        most = omega (arith, not_long message f);
       }
 
-  pub any-loaded : {layout : Layout} {policy : Text} → a ≡ Parsed.Read layout → length policy ≤ INPUT_MAX → AnyLoaded message policy (length message) layout segs cells
-  any-loaded e h = record { message = messageOf message; loaded = parsed-loaded e h }
+  pub any_loaded : {layout : Layout} {policy : Text} → a ≡ Parsed.Read layout → length policy ≤ INPUT_MAX → AnyLoaded message policy (length message) layout segs cells
+  any_loaded e h = record { message = message_of message; loaded = parsed_loaded e h }
 
-  pub message-refused : {x : Refusal} {output report : Text} → a ≡ Parsed.Refused x → (y : Answer Redaction) → AnsweredAs (withoutFault (messageFault message) y) output report (Refused x 0)
-  unfolding withoutFault faultOf
-  message-refused e y = record { out = rw (← p.is, e) }
+  pub message_refused : {x : Refusal} {output report : Text} → a ≡ Parsed.Refused x → (y : Answer Redaction) → AnsweredAs (without_fault (message_fault message) y) output report (Refused x 0)
+  unfolding without_fault fault_of
+  message_refused e y = record { out = rw (← p.is, e) }
 
 -- ---- the run's answer
 
 -- a message by itself
-alone : (key : ℕ) (P : Policy) (message : Text) → messageFault message ≡ none → redactFrom (length message) key P (messageOf message) ≡ redact key P (messageOf message)
+alone : (key : ℕ) (P : Policy) (message : Text) → message_fault message ≡ none → redact_from (length message) key P (message_of message) ≡ redact key P (message_of message)
 unfolding redact
-alone key P message f = ap (λ (t : Text). redactFrom (length t) key P (messageOf message)) (sym (message-prints message f))
+alone key P message f = ap (λ (t : Text). redact_from (length t) key P (message_of message)) (sym (message_prints message f))
 
-module _ (key : ℕ) (P : Policy) (message : Text) (f : messageFault message ≡ none) {output output' report' : Text} {r : Redacted} (g : RedactedIs (redactFrom (length message) key P (messageOf message)) output output' report' r) where
-  pub run-refused : (b : ℕ) {x : Refusal} {o ρ : Text} → r ≡ Run.Refused x → AnsweredAs (withoutFault (messageFault message) (reported b (redact key P (messageOf message)))) o ρ (Refused x 0)
-  unfolding withoutFault reported
-  run-refused b {x} e =
-      let q : RedactedIs (redactFrom (length message) key P (messageOf message)) output output' report' (Run.Refused x) = rw e at g in
+module _ (key : ℕ) (P : Policy) (message : Text) (f : message_fault message ≡ none) {output output' report' : Text} {r : Redacted} (g : RedactedIs (redact_from (length message) key P (message_of message)) output output' report' r) where
+  pub run_refused : (b : ℕ) {x : Refusal} {o ρ : Text} → r ≡ Run.Refused x → AnsweredAs (without_fault (message_fault message) (reported b (redact key P (message_of message)))) o ρ (Refused x 0)
+  unfolding without_fault reported
+  run_refused b {x} e =
+      let q : RedactedIs (redact_from (length message) key P (message_of message)) output output' report' (Run.Refused x) = rw e at g in
       record { out = rw (f, ← alone key P message f, q.out.0) }
 
   module _ {n k m : ℕ} (e : r ≡ Run.Redacted n k m) where
-    left : Left (redactFrom (length message) key P (messageOf message)) n k m output output' report'
+    left : Left (redact_from (length message) key P (message_of message)) n k m output output' report'
     left = (rw e at g).out
 
-    pub report-full : (b : ℕ) {o ρ : Text} → b < k → AnsweredAs (withoutFault (messageFault message) (reported b (redact key P (messageOf message)))) o ρ (Refused ReportTooLong 0)
-    unfolding withoutFault reported
-    report-full b h = record { out = rw (f, ← alone key P message f, left.is, ← left.reported.long, lt-ltb b k h) }
+    pub report_full : (b : ℕ) {o ρ : Text} → b < k → AnsweredAs (without_fault (message_fault message) (reported b (redact key P (message_of message)))) o ρ (Refused ReportTooLong 0)
+    unfolding without_fault reported
+    report_full b h = record { out = rw (f, ← alone key P message f, left.is, ← left.reported.long, lt-ltb b k h) }
 
-    pub run-done : (b : ℕ) → TEXT_MAX ≤ length output → b ≡ length report' → k ≤ length report'
-        → AnsweredAs (withoutFault (messageFault message) (reported b (redact key P (messageOf message)))) output' report' (Whole n k m)
-    run-done b wide long fits =
+    pub run_done : (b : ℕ) → TEXT_MAX ≤ length output → b ≡ length report' → k ≤ length report'
+        → AnsweredAs (without_fault (message_fault message) (reported b (redact key P (message_of message)))) output' report' (Whole n k m)
+    run_done b wide long fits =
         record {
           out = record {
             gives = record { text = left.text; rows = left.rows };
             is = is;
-            text-fits = omega (arith, left.long, short, wide, wrote-length wrote);
-            text-is = wrote-taken wrote;
-            report-fits = fits;
-            report-is = left.reported.text fits;
+            text_fits = omega (arith, left.long, short, wide, wrote_length wrote);
+            text_is = wrote_taken wrote;
+            report_fits = fits;
+            report_is = left.reported.text fits;
             count = left.count;
           };
         }
       where
         short : length left.text ≤ TEXT_MAX
-        short = redacted-fits key P message f left.text left.rows (sym (alone key P message f) ∙ left.is)
+        short = redacted_fits key P message f left.text left.rows (sym (alone key P message f) ∙ left.is)
 
         wrote : Wrote output 0 left.text output' n
         wrote = left.fits (omega (arith, short, wide))
 
-        is : withoutFault (messageFault message) (reported b (redact key P (messageOf message))) ≡ done (record { text = left.text; rows = left.rows })
-        is = unfold withoutFault reported in rw (f, ← alone key P message f, left.is, ← left.reported.long, le-ltb b k (omega (arith, long, fits)))
+        is : without_fault (message_fault message) (reported b (redact key P (message_of message))) ≡ done (record { text = left.text; rows = left.rows })
+        is = unfold without_fault reported in rw (f, ← alone key P message f, left.is, ← left.reported.long, le-ltb b k (omega (arith, long, fits)))
 
 -- ---- the policy
 
 -- one that was read is not too long
-pub read-not-long : (t : Text) (p : Policy) → readPolicy t ≡ read p → length t ≤ INPUT_MAX
-unfolding readPolicy tooLong
-read-not-long t p e = go (ltb INPUT_MAX (length t)) refl _ e
+pub read_not_long : (t : Text) (p : Policy) → read_policy t ≡ read p → length t ≤ INPUT_MAX
+unfolding read_policy too_long
+read_not_long t p e = go (ltb INPUT_MAX (length t)) refl _ e
   where
-    is_read : PolicyRead → Bool
-    is_read (read q) = true
-    is_read (Q.refused x n) = false
+    is_read_lem : PolicyRead → Bool
+    is_read_lem (read q) = true
+    is_read_lem (Q.refused x n) = false
 
     go : (b : Bool) → ltb INPUT_MAX (length t) ≡ b → (o : PolicyRead) → cond b (Q.refused TooLong 0) o ≡ read p → length t ≤ INPUT_MAX
-    go true q o h = clash (sym (ap is_read h))
+    go true q o h = clash (sym (ap is_read_lem h))
     go false q o h = ltb-false INPUT_MAX (length t) q
 
 module _ (o : PolicyRead) (f : Policy → Answer Redaction) where
-  pub policy-refused : {x : Refusal} {n : ℕ} {output report : Text} → o ≡ Q.refused x n → AnsweredAs (withPolicy o f) output report (Refused x n)
-  policy-refused e = record { out = sym (Outcomes.policy-refused o f e) }
+  pub refuses_policy : {x : Refusal} {n : ℕ} {output report : Text} → o ≡ Q.refused x n → AnsweredAs (with_policy o f) output report (Refused x n)
+  refuses_policy e = record { out = sym (Outcomes.refuses_policy o f e) }
 
-  pub policy-read : {p : Policy} {output report : Text} {r : Given} → o ≡ read p → AnsweredAs (f p) output report r → AnsweredAs (withPolicy o f) output report r
-  policy-read {p} {output} {report} {r} e g = subst (λ (x : Answer Redaction). AnsweredAs x output report r) (Outcomes.policy-read o f p e) g
+  pub policy_read : {p : Policy} {output report : Text} {r : Given} → o ≡ read p → AnsweredAs (f p) output report r → AnsweredAs (with_policy o f) output report r
+  policy_read {p} {output} {report} {r} e g = subst (λ (x : Answer Redaction). AnsweredAs x output report r) (Outcomes.policy_read o f p e) g
 
 -- ---- what is handed back
 
 -- buffers keep their lengths
-same-lent : {a' a ρ' ρ : ℕ} (b : ℕ) (x : Answer Redaction) → a' ≡ a → ρ' ≡ ρ → outcomeWithReport (lentReport a' ρ' b) x ≡ outcomeWithReport (lentReport a ρ b) x
-same-lent b x e f = rw (e, f)
+same_lent : {a' a ρ' ρ : ℕ} (b : ℕ) (x : Answer Redaction) → a' ≡ a → ρ' ≡ ρ → outcome_with_report (lent_report a' ρ' b) x ≡ outcome_with_report (lent_report a ρ b) x
+same_lent b x e f = rw (e, f)
 
 module _ {x : Answer Redaction} {output report : Text} {r : Given} (g : AnsweredAs x output report r) where
-  pub answered-done : {n k m : ℕ} → r ≡ Whole n k m → Written x n k m output report
-  answered-done e = (rw e at g).out
+  pub answered_done : {n k m : ℕ} → r ≡ Whole n k m → Written x n k m output report
+  answered_done e = (rw e at g).out
 
-  answered-refused : {e : Refusal} {n : ℕ} → r ≡ Refused e n → refused e n ≡ x
-  answered-refused e = sym (rw e at g).out
+  answered_refused : {e : Refusal} {n : ℕ} → r ≡ Refused e n → refused e n ≡ x
+  answered_refused e = sym (rw e at g).out
 
-  module _ (a ρ b : ℕ) (wide : isShort (lent a b) ≡ false) (oh : length output ≡ a) (rh : length report ≡ ρ) where
-    pub returned-done : {o : RedactOutcome} {n k m : ℕ} → r ≡ Whole n k m
-        → ((d : Redaction) → take n output ≡ d.text → take k report ≡ printRows d.rows → m ≡ length d.rows → o ≡ outcomeWithReport (lentReport (length output) (length report) b) (done d))
-        → o ≡ outcomeWithReport (lentReport a ρ b) (withBuffers (lent a b) x)
-    returned-done e f =
-        let q = answered-done e in
-        f q.gives q.text-is q.report-is q.count ∙ same-lent b _ oh rh ∙ ap (outcomeWithReport (lentReport a ρ b)) (Outcomes.wide-answer (lent a b) x wide (sym q.is))
+  module _ (a ρ b : ℕ) (wide : is_short (lent a b) ≡ false) (oh : length output ≡ a) (rh : length report ≡ ρ) where
+    pub returned_done : {o : RedactOutcome} {n k m : ℕ} → r ≡ Whole n k m
+        → ((d : Redaction) → take n output ≡ d.text → take k report ≡ print_rows d.rows → m ≡ length d.rows → o ≡ outcome_with_report (lent_report (length output) (length report) b) (done d))
+        → o ≡ outcome_with_report (lent_report a ρ b) (with_buffers (lent a b) x)
+    returned_done e f =
+        let q = answered_done e in
+        f q.gives q.text_is q.report_is q.count ∙ same_lent b _ oh rh ∙ ap (outcome_with_report (lent_report a ρ b)) (Outcomes.wide_answer (lent a b) x wide (sym q.is))
 
-    pub returned-refused : {o : RedactOutcome} {y : Refusal} {n : ℕ} → r ≡ Refused y n → o ≡ outcomeWithReport (lentReport (length output) (length report) b) (refused y n)
-        → o ≡ outcomeWithReport (lentReport a ρ b) (withBuffers (lent a b) x)
-    returned-refused e f = f ∙ same-lent b _ oh rh ∙ ap (outcomeWithReport (lentReport a ρ b)) (Outcomes.wide-answer (lent a b) x wide (answered-refused e))
+    pub returned_refused : {o : RedactOutcome} {y : Refusal} {n : ℕ} → r ≡ Refused y n → o ≡ outcome_with_report (lent_report (length output) (length report) b) (refused y n)
+        → o ≡ outcome_with_report (lent_report a ρ b) (with_buffers (lent a b) x)
+    returned_refused e f = f ∙ same_lent b _ oh rh ∙ ap (outcome_with_report (lent_report a ρ b)) (Outcomes.wide_answer (lent a b) x wide (answered_refused e))
 
 -- ---- room in the table of leaves
 
 -- for as many as a message of m bytes can have
-pub short-room : (cells : List ℕ) (m : ℕ) → m * 8 ≤ length cells → LeafRoom cells m
-short-room cells m h = record { room = λ i a b. omega arith }
+pub short_room : (cells : List ℕ) (m : ℕ) → m * 8 ≤ length cells → LeafRoom cells m
+short_room cells m h = record { room = λ i a b. omega arith }
 
 -- or for 4096
-pub full-room : (cells : List ℕ) (m : ℕ) → LEAVES_MAX * 8 ≤ length cells → LeafRoom cells m
-full-room cells m h = record { room = λ i a b. omega arith }
+pub full_room : (cells : List ℕ) (m : ℕ) → LEAVES_MAX * 8 ≤ length cells → LeafRoom cells m
+full_room cells m h = record { room = λ i a b. omega arith }

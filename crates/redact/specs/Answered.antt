@@ -1,7 +1,7 @@
 -- What the contracts of private functions cite; no public contract rests on it. Assumes nothing: these are definitions.
 use Rattle.core.specs.Prelude.{◌≡◌, ℕ, ◌≤◌, length, take}
 use Rattle.text.specs.Text.{Text}
-use Rattle.run_model.specs.Redact.{printRows}
+use Rattle.run_model.specs.Redact.{print_rows}
 use Rattle.run_model.specs.Entries as Model
 use Rattle.redact.specs.declared.redact.Answer.{Answer}
 use Rattle.redact.specs.declared.redact.Answer.TheVariants.{Redacted, Refused}
@@ -10,10 +10,10 @@ use Rattle.redact.specs.declared.redact.Answer.TheVariants.{Redacted, Refused}
 pub record Written (a : Model.Answer Model.Redaction) (n k m : ℕ) (output report : Text) : Type 0 where
   pub gives : Model.Redaction
   pub is : a ≡ Model.done gives
-  pub text-fits : n ≤ length output
-  pub text-is : take n output ≡ gives.text
-  pub report-fits : k ≤ length report
-  pub report-is : take k report ≡ printRows gives.rows
+  pub text_fits : n ≤ length output
+  pub text_is : take n output ≡ gives.text
+  pub report_fits : k ≤ length report
+  pub report_is : take k report ≡ print_rows gives.rows
   pub count : m ≡ length gives.rows
 
 -- .. or there is a refusal

@@ -1,12 +1,12 @@
 // Redacts a message by a policy and a key.
 ghost use Rattle.core.specs.Prelude.{◌≡◌, ℕ, ◌≤◌, length};
-ghost use Rattle.message_model.specs.Message.{messageOf, messageFault};
-ghost use Rattle.policy_model.specs.Policy.{readPolicy};
-ghost use Rattle.policy.specs.Policy.{asPolicy, PolicyHeld};
+ghost use Rattle.message_model.specs.Message.{message_of, message_fault};
+ghost use Rattle.policy_model.specs.Policy.{read_policy};
+ghost use Rattle.policy.specs.Policy.{as_policy, PolicyHeld};
 ghost use Rattle.run_model.specs.Redact as Redact;
-ghost use Rattle.run_model.specs.Entries.{withPolicy, withoutFault, reported, redactOutcome};
+ghost use Rattle.run_model.specs.Entries.{with_policy, without_fault, reported, redact_outcome};
 ghost use Rattle.er7_table.specs.Filling.{LeafRoom};
-ghost use Rattle.entries.specs.Returned.{lentReport, asRedactOutcome};
+ghost use Rattle.entries.specs.Returned.{lent_report, as_redact_outcome};
 ghost use Rattle.redact.specs.Answered.{AnsweredAs};
 ghost use Rattle.refusal.specs.Limits.{INPUT_MAX, TEXT_MAX};
 
@@ -41,7 +41,7 @@ fn redact_in(
     report: &mut [u8],
 ) -> Answer
     requires { PolicyHeld text.now policy × (length text.now ≤ INPUT_MAX) × LeafRoom cells.old (length message.now) × (TEXT_MAX ≤ length output.old) }
-    ensures { AnsweredAs (withoutFault (messageFault message.now) (reported (length report.old) (Redact.redact key (asPolicy text.now policy) (messageOf message.now)))) output.new report.new result }
+    ensures { AnsweredAs (without_fault (message_fault message.now) (reported (length report.old) (Redact.redact key (as_policy text.now policy) (message_of message.now)))) output.new report.new result }
 {
     match message::parse(message, segs, cells) {
         ParsedMessage::Read(layout) => match redact_from(
@@ -86,7 +86,7 @@ fn redact_message(
     report: &mut [u8],
 ) -> Answer
     requires { PolicyHeld text.now policy × (length text.now ≤ INPUT_MAX) × (TEXT_MAX ≤ length output.old) }
-    ensures { AnsweredAs (withoutFault (messageFault message.now) (reported (length report.old) (Redact.redact key (asPolicy text.now policy) (messageOf message.now)))) output.new report.new result }
+    ensures { AnsweredAs (without_fault (message_fault message.now) (reported (length report.old) (Redact.redact key (as_policy text.now policy) (message_of message.now)))) output.new report.new result }
 {
     let mut segs = [0usize; 2056];
     if message.len() <= 1024 {
@@ -110,7 +110,7 @@ fn redact_by(
     report: &mut [u8],
 ) -> Answer
     requires { TEXT_MAX ≤ length output.old }
-    ensures { AnsweredAs (withPolicy (readPolicy policy.now) λ P. withoutFault (messageFault message.now) (reported (length report.old) (Redact.redact key P (messageOf message.now)))) output.new report.new result }
+    ensures { AnsweredAs (with_policy (read_policy policy.now) λ P. without_fault (message_fault message.now) (reported (length report.old) (Redact.redact key P (message_of message.now)))) output.new report.new result }
 {
     let parsed = parse(policy);
     let held = parsed.policy;
@@ -130,7 +130,7 @@ pub fn redact(
     report: &mut [u8],
     scratch: &mut [u8],
 ) -> ReturnedReport
-    ensures { asRedactOutcome result output.new report.new scratch.new ≡ redactOutcome (lentReport (length output.old) (length report.old) (length scratch.old)) message.now policy.now key }
+    ensures { as_redact_outcome result output.new report.new scratch.new ≡ redact_outcome (lent_report (length output.old) (length report.old) (length scratch.old)) message.now policy.now key }
 {
     if is_short(output.len(), scratch.len()) {
         return refuse_report(Refusal::ShortBuffer, 0, output, report, scratch);

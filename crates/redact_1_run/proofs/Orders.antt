@@ -9,12 +9,12 @@ use native.Mathlib.Omega.{arith}
 use Rattle.text.specs.Text.{Text}
 use Rattle.text.proofs.Laws.{split}
 use Rattle.er7.specs.declared.message.Place.{Place}
-use Rattle.message_model.specs.Message.{Leaf, leaf, Label, atField}
-use Rattle.message_model.specs.Chain.{Piece, a-field, a-repetition, a-component, a-subcomponent, nextPlace, Chain, Chained}
-use Rattle.er7_table.specs.Table.{cell, list_of, placeAt, storedText, leafAt, firstLeaf, label_at}
-use Rattle.redact_4_leaf.specs.Walk.{segmentOf}
+use Rattle.message_model.specs.Message.{Leaf, leaf, Label, at_field}
+use Rattle.message_model.specs.Chain.{Piece, a-field, a-repetition, a-component, a-subcomponent, next_place, Chain, Chained}
+use Rattle.er7_table.specs.Table.{cell, list_of, place_at, stored_text, leaf_at, first_leaf, label_at}
+use Rattle.redact_4_leaf.specs.Walk.{segment_of}
 use Rattle.redact_4_leaf.specs.State.{Buffers, leaves, marked}
-use Rattle.redact_4_leaf.proofs.Acting.{live-text}
+use Rattle.redact_4_leaf.proofs.Acting.{live_text}
 use Rattle.redact_2_turn.specs.Ordered.{Ordered, AllOrdered}
 
 -- a leaf in a chain, behind the place p: the place behind which the next one stands
@@ -25,70 +25,70 @@ record Stepped (p q : Place) (o : Option Text) (xs : List Leaf) : Type 0 where
   rest : Chain place xs
   live : (t : Text) → o ≡ some t → place ≡ q
 
-step-low : (k : Piece) (p : Place) → p.field ≤ (nextPlace k p).field
-step-low a-field p = omega arith
-step-low a-repetition p = omega arith
-step-low a-component p = omega arith
-step-low a-subcomponent p = omega arith
+step_low : (k : Piece) (p : Place) → p.field ≤ (next_place k p).field
+step_low a-field p = omega arith
+step_low a-repetition p = omega arith
+step_low a-component p = omega arith
+step_low a-subcomponent p = omega arith
 
-step-high : (k : Piece) (p : Place) → (nextPlace k p).field ≤ p.field + 1
-step-high a-field p = omega arith
-step-high a-repetition p = omega arith
-step-high a-component p = omega arith
-step-high a-subcomponent p = omega arith
+step_high : (k : Piece) (p : Place) → (next_place k p).field ≤ p.field + 1
+step_high a-field p = omega arith
+step_high a-repetition p = omega arith
+step_high a-component p = omega arith
+step_high a-subcomponent p = omega arith
 
 stepped : (p q : Place) (b : Bool) (o : Option Text) (xs : List Leaf) → Chain p (leaf q b o ∷ xs) → Stepped p q o xs
 stepped p q b none xs c = record { place = p; low = omega arith; high = omega arith; rest = c; live = λ t e. let z : ◌≡◌ {A = ℕ} 0 1 = cc in absurd (omega arith) }
-stepped p q b (some t) xs ((k, e), c) = record { place = q; low = rw e (step-low k p); high = rw e (step-high k p); rest = c; live = λ u f. refl }
+stepped p q b (some t) xs ((k, e), c) = record { place = q; low = rw e (step_low k p); high = rw e (step_high k p); rest = c; live = λ u f. refl }
 
 module _ (m : ℕ → Bool) (cells : List ℕ) (store : Text) where
-  step-at : (i n : ℕ) (p : Place) → Chain p (list_of (leafAt m cells store) i (suc n)) → Stepped p (placeAt cells i) (storedText cells store i) (list_of (leafAt m cells store) (suc i) n)
-  unfolding list_of leafAt
-  step-at i n p c = stepped p (placeAt cells i) (m i) (storedText cells store i) (list_of (leafAt m cells store) (suc i) n) c
+  step_at : (i n : ℕ) (p : Place) → Chain p (list_of (leaf_at m cells store) i (suc n)) → Stepped p (place_at cells i) (stored_text cells store i) (list_of (leaf_at m cells store) (suc i) n)
+  unfolding list_of leaf_at
+  step_at i n p c = stepped p (place_at cells i) (m i) (stored_text cells store i) (list_of (leaf_at m cells store) (suc i) n) c
 
   -- the field of the place behind a leaf that has not vanished
-  field-behind : (i n : ℕ) (p : Place) (s : Stepped p (placeAt cells i) (storedText cells store i) (list_of (leafAt m cells store) (suc i) n)) → cell cells i 3 ≡ 0 → s.place.field ≡ cell cells i 4
-  unfolding placeAt
-  field-behind i n p s e = ap (λ (q : Place). q.field) (s.live _ (live-text cells store i e))
+  field_behind : (i n : ℕ) (p : Place) (s : Stepped p (place_at cells i) (stored_text cells store i) (list_of (leaf_at m cells store) (suc i) n)) → cell cells i 3 ≡ 0 → s.place.field ≡ cell cells i 4
+  unfolding place_at
+  field_behind i n p s e = ap (λ (q : Place). q.field) (s.live _ (live_text cells store i e))
 
-  chain-fields : (n i : ℕ) (p : Place) → Chain p (list_of (leafAt m cells store) i n) → (j : ℕ) → i ≤ j → j < i + n → cell cells j 3 ≡ 0
+  chain_fields : (n i : ℕ) (p : Place) → Chain p (list_of (leaf_at m cells store) i n) → (j : ℕ) → i ≤ j → j < i + n → cell cells j 3 ≡ 0
       → (p.field ≤ cell cells j 4) × (cell cells j 4 ≤ p.field + (j - i) + 1)
-  chain-fields zero i p c j a b e = absurd (omega arith)
-  chain-fields (suc n) i p c j a b e =
-      let s = step-at i n p c in
+  chain_fields zero i p c j a b e = absurd (omega arith)
+  chain_fields (suc n) i p c j a b e =
+      let s = step_at i n p c in
       split i j
-      (λ h. let r = chain-fields n (suc i) s.place s.rest j h (omega arith) e in (omega (arith, r.0, s.low), omega (arith, r.1, s.high)))
-      (λ h. let q : j ≡ i = omega arith in let f = field-behind i n p s (rw q at e) in rw q (omega (arith, f, s.low), omega (arith, f, s.high)))
+      (λ h. let r = chain_fields n (suc i) s.place s.rest j h (omega arith) e in (omega (arith, r.0, s.low), omega (arith, r.1, s.high)))
+      (λ h. let q : j ≡ i = omega arith in let f = field_behind i n p s (rw q at e) in rw q (omega (arith, f, s.low), omega (arith, f, s.high)))
 
-  chain-rises : (n i : ℕ) (p : Place) → Chain p (list_of (leafAt m cells store) i n) → (j k : ℕ) → i ≤ j → j ≤ k → k < i + n → cell cells j 3 ≡ 0 → cell cells k 3 ≡ 0
+  chain_rises : (n i : ℕ) (p : Place) → Chain p (list_of (leaf_at m cells store) i n) → (j k : ℕ) → i ≤ j → j ≤ k → k < i + n → cell cells j 3 ≡ 0 → cell cells k 3 ≡ 0
       → cell cells j 4 ≤ cell cells k 4
-  chain-rises zero i p c j k a b l e f = absurd (omega arith)
-  chain-rises (suc n) i p c j k a b l e f =
-      let s = step-at i n p c in
+  chain_rises zero i p c j k a b l e f = absurd (omega arith)
+  chain_rises (suc n) i p c j k a b l e f =
+      let s = step_at i n p c in
       split i j
-      (λ h. chain-rises n (suc i) s.place s.rest j k h b (omega arith) e f)
-      (λ h. let q : j ≡ i = omega arith in let g = field-behind i n p s (rw q at e) in behind s q g)
+      (λ h. chain_rises n (suc i) s.place s.rest j k h b (omega arith) e f)
+      (λ h. let q : j ≡ i = omega arith in let g = field_behind i n p s (rw q at e) in behind s q g)
     where
-      behind : (s : Stepped p (placeAt cells i) (storedText cells store i) (list_of (leafAt m cells store) (suc i) n)) → j ≡ i → s.place.field ≡ cell cells i 4 → cell cells j 4 ≤ cell cells k 4
+      behind : (s : Stepped p (place_at cells i) (stored_text cells store i) (list_of (leaf_at m cells store) (suc i) n)) → j ≡ i → s.place.field ≡ cell cells i 4 → cell cells j 4 ≤ cell cells k 4
       behind s q g =
-          split i k (λ h. rw q (omega (arith, g, (chain-fields n (suc i) s.place s.rest k h (omega arith) f).0)))
+          split i k (λ h. rw q (omega (arith, g, (chain_fields n (suc i) s.place s.rest k h (omega arith) f).0)))
           (λ h. let r : k ≡ j = omega arith in rw r (omega arith))
 
-  chain-ordered : (first end : ℕ) → Chain (atField 0) (list_of (leafAt m cells store) first (end - first)) → Ordered cells first end
-  unfolding atField
-  chain-ordered first end c = record {
-    rising = record { rise = λ i j a b l e f. chain-rises (end - first) first (atField 0) c i j a b (omega arith) e f };
-    few = λ j a l e. omega (arith, (chain-fields (end - first) first (atField 0) c j a (omega arith) e).1);
+  chain_ordered : (first end : ℕ) → Chain (at_field 0) (list_of (leaf_at m cells store) first (end - first)) → Ordered cells first end
+  unfolding at_field
+  chain_ordered first end c = record {
+    rising = record { rise = λ i j a b l e f. chain_rises (end - first) first (at_field 0) c i j a b (omega arith) e f };
+    few = λ j a l e. omega (arith, (chain_fields (end - first) first (at_field 0) c j a (omega arith) e).1);
   }
 
 -- the same of segments
-chain-at : (labels : ℕ → Label) (firsts : ℕ → ℕ) (f : ℕ → Leaf) (n i : ℕ) → Chained (list_of (segmentOf labels firsts f) i n) → (k : ℕ) → i ≤ k → k < i + n → Chain (atField 0) (list_of f (firsts k) (firsts (suc k) - firsts k))
-unfolding list_of segmentOf
-chain-at labels firsts f zero i c k a l = absurd (omega arith)
-chain-at labels firsts f (suc n) i c k a l =
-    split i k (λ h. chain-at labels firsts f n (suc i) c.1 k h (omega arith)) (λ h. let q : k ≡ i = omega arith in rw q c.0)
+chain_at : (labels : ℕ → Label) (firsts : ℕ → ℕ) (f : ℕ → Leaf) (n i : ℕ) → Chained (list_of (segment_of labels firsts f) i n) → (k : ℕ) → i ≤ k → k < i + n → Chain (at_field 0) (list_of f (firsts k) (firsts (suc k) - firsts k))
+unfolding list_of segment_of
+chain_at labels firsts f zero i c k a l = absurd (omega arith)
+chain_at labels firsts f (suc n) i c k a l =
+    split i k (λ h. chain_at labels firsts f n (suc i) c.1 k h (omega arith)) (λ h. let q : k ≡ i = omega arith in rw q c.0)
 
-pub chained-ordered : (segs : List ℕ) (m : ℕ) (β : Buffers) → Chained (list_of (segmentOf (label_at segs) (firstLeaf segs) (leaves β)) 0 m) → AllOrdered segs β.cells m
-chained-ordered segs m β c = record {
-  ordered = λ k h. rw add-one (chain-ordered (marked β.named) β.cells β.store (firstLeaf segs k) (firstLeaf segs (suc k)) (chain-at (label_at segs) (firstLeaf segs) (leaves β) m 0 c k (omega arith) (omega arith)));
+pub chained_ordered : (segs : List ℕ) (m : ℕ) (β : Buffers) → Chained (list_of (segment_of (label_at segs) (first_leaf segs) (leaves β)) 0 m) → AllOrdered segs β.cells m
+chained_ordered segs m β c = record {
+  ordered = λ k h. rw add-one (chain_ordered (marked β.named) β.cells β.store (first_leaf segs k) (first_leaf segs (suc k)) (chain_at (label_at segs) (first_leaf segs) (leaves β) m 0 c k (omega arith) (omega arith)));
 }

@@ -11,26 +11,26 @@ use Rattle.text.specs.Text.{Text}
 use Rattle.refusal.specs.declared.Refusal.{Refusal}
 use Rattle.refusal.specs.Limits.{LEAVES_MAX, TEXT_MAX}
 use Rattle.er7.specs.declared.separators.Separators.{Separators}
-use Rattle.message_model.specs.Message.{Leaf, Label, Segment, segment, lead, printLeaves, printSegments}
+use Rattle.message_model.specs.Message.{Leaf, Label, Segment, segment, lead, print_leaves, print_segments}
 use Rattle.run_model.specs.Redact.{Known, Progress}
-use Rattle.run_model.proofs.Sizes.{textSize, leafSize, leaf-size}
-use Rattle.er7_table.specs.Table.{list_of, placeAt, storedText, leafAt, firstLeaf, label_at, Good, Segmented}
+use Rattle.run_model.proofs.Sizes.{text_size, leaf_size, leaf_size_lem}
+use Rattle.er7_table.specs.Table.{list_of, place_at, stored_text, leaf_at, first_leaf, label_at, Good, Segmented}
 use Rattle.er7_table.proofs.Laws.{list_ext}
-use Rattle.er7_render.specs.Stored.{liveLen, liveSum, RoomMade}
-use Rattle.er7_render.proofs.Sums.{sum-parts}
-use Rattle.er7_render.proofs.Room.{textLong, live-text, room-sum}
-use Rattle.redact_4_leaf.specs.Walk.{Pass, segmentOf}
+use Rattle.er7_render.specs.Stored.{live_len, live_sum, RoomMade}
+use Rattle.er7_render.proofs.Sums.{sum_parts}
+use Rattle.er7_render.proofs.Room.{text_long, live_text, room_sum}
+use Rattle.redact_4_leaf.specs.Walk.{Pass, segment_of}
 use Rattle.redact_5_act.specs.declared.state.Setting.{Setting}
 use Rattle.redact_5_act.specs.declared.state.Counters.{Counters}
 use Rattle.redact_5_act.specs.declared.state.Done.{Done}
 use Rattle.redact_5_act.specs.declared.state.Done.TheVariants.{Going, Stopped}
-use Rattle.redact_4_leaf.specs.State.{Buffers, buffers, marked, knownNow, RecordedIn, Held, RoomLeft}
+use Rattle.redact_4_leaf.specs.State.{Buffers, buffers, marked, known_now, RecordedIn, Held, RoomLeft}
 use Rattle.redact_4_leaf.proofs.Visits.{known_same, held_same}
 use Rattle.redact_2_turn.specs.Ordered.{AllOrdered}
 use Rattle.redact_2_turn.specs.Taken.{Ahead, TurnTaken}
-use Rattle.redact_2_turn.specs.Turn.{byNode}
+use Rattle.redact_2_turn.specs.Turn.{by_node}
 use Rattle.redact_2_turn.specs.declared.turn.Job.{Job}
-use Rattle.redact_2_turn.proofs.Idle.{ordered-as}
+use Rattle.redact_2_turn.proofs.Idle.{ordered_as}
 use Rattle.redact_1_run.specs.Stage.{TurnReady, TurnReadyOr, RoomFor, MadeRoom, NextIs}
 
 -- ---- what room is good for
@@ -38,11 +38,11 @@ use Rattle.redact_1_run.specs.Stage.{TurnReady, TurnReadyOr, RoomFor, MadeRoom, 
 module _ {n : ℕ} {cells : List ℕ} {store bytes : Text} {from : ℕ} {cells' : List ℕ} {store' bytes' : Text} {r : ℕ}
     (w : RoomMade n cells store bytes from cells' store' bytes' r) where
   -- a turn may begin
-  pub made-room-left : (c : Counters) → c.used ≡ r → liveSum cells 0 n ≤ c.size → c.size ≤ TEXT_MAX → n ≤ LEAVES_MAX → c.rows ≤ 2 ^ 30 → c.report_len ≤ 2 ^ 46
+  pub made_room_left : (c : Counters) → c.used ≡ r → live_sum cells 0 n ≤ c.size → c.size ≤ TEXT_MAX → n ≤ LEAVES_MAX → c.rows ≤ 2 ^ 30 → c.report_len ≤ 2 ^ 46
       → (node : Bool) → RoomLeft node cells' 0 n c
-  made-room-left c q sum most few rows report node =
+  made_room_left c q sum most few rows report node =
       let z : n - 0 ≡ n = omega arith in
-      let s : liveSum cells' 0 (n - 0) ≤ c.size = rw (z, room-sum w) sum in
+      let s : live_sum cells' 0 (n - 0) ≤ c.size = rw (z, room_sum w) sum in
       record {
         sum = λ e. omega (arith, s, w.ample);
         flat = λ e. omega (arith, w.ample);
@@ -54,66 +54,66 @@ module _ {n : ℕ} {cells : List ℕ} {store bytes : Text} {from : ℕ} {cells' 
       }
 
   -- the segments are as they were
-  pub room-segments : (labels : ℕ → Label) (firsts : ℕ → ℕ) (m : ℕ) → ((i j : ℕ) → i ≤ j → j ≤ m → firsts i ≤ firsts j) → firsts m ≡ n → (named : ℕ → Bool)
-      → list_of (segmentOf labels firsts (leafAt named cells' store')) 0 m ≡ list_of (segmentOf labels firsts (leafAt named cells store)) 0 m
-  unfolding segmentOf
-  room-segments labels firsts m up all named =
-      list_ext (segmentOf labels firsts (leafAt named cells' store')) (segmentOf labels firsts (leafAt named cells store)) 0 m (λ k a b.
-      ap (segment (labels k)) (list_ext (leafAt named cells' store') (leafAt named cells store) (firsts k) (firsts (suc k) - firsts k) (λ i x y.
+  pub room_segments : (labels : ℕ → Label) (firsts : ℕ → ℕ) (m : ℕ) → ((i j : ℕ) → i ≤ j → j ≤ m → firsts i ≤ firsts j) → firsts m ≡ n → (named : ℕ → Bool)
+      → list_of (segment_of labels firsts (leaf_at named cells' store')) 0 m ≡ list_of (segment_of labels firsts (leaf_at named cells store)) 0 m
+  unfolding segment_of
+  room_segments labels firsts m up all named =
+      list_ext (segment_of labels firsts (leaf_at named cells' store')) (segment_of labels firsts (leaf_at named cells store)) 0 m (λ k a b.
+      ap (segment (labels k)) (list_ext (leaf_at named cells' store') (leaf_at named cells store) (firsts k) (firsts (suc k) - firsts k) (λ i x y.
       w.leaf named i (omega (arith, up k (suc k) (omega arith) (omega arith), up (suc k) m (omega arith) (omega arith), all)))))
 
 -- ---- the texts of the leaves are no longer than the message as it prints
 
-text-size : (o : Option Text) → textLong o ≡ textSize 0 o
-text-size none = refl
-text-size (some t) = omega arith
+text_size_lem : (o : Option Text) → text_long o ≡ text_size 0 o
+text_size_lem none = refl
+text_size_lem (some t) = omega arith
 
-text-most : (k : ℕ) (o : Option Text) → textSize 0 o ≤ textSize k o
-text-most k none = omega arith
-text-most k (some t) = omega arith
+text_most : (k : ℕ) (o : Option Text) → text_size 0 o ≤ text_size k o
+text_most k none = omega arith
+text_most k (some t) = omega arith
 
 -- a segment's leaves print beside what follows it
-segment-size : (s : Separators) (cr : Bool) (g : Label) (xs : List Leaf) (ss : List Segment)
-    → length (printLeaves s g xs) + length (printSegments s cr ss) ≤ length (printSegments s cr (segment g xs ∷ ss))
-unfolding printSegments
-segment-size s cr g xs [] = simp length-append (omega arith)
-segment-size s cr g xs (z ∷ ss) = simp length-append (omega arith)
+segment_size : (s : Separators) (cr : Bool) (g : Label) (xs : List Leaf) (ss : List Segment)
+    → length (print_leaves s g xs) + length (print_segments s cr ss) ≤ length (print_segments s cr (segment g xs ∷ ss))
+unfolding print_segments
+segment_size s cr g xs [] = simp length-append (omega arith)
+segment_size s cr g xs (z ∷ ss) = simp length-append (omega arith)
 
 module _ (s : Separators) (cr : Bool) (named : ℕ → Bool) {cells : List ℕ} {store : Text} {n used : ℕ} (good : Good cells store n used) where
-  leaf-live : (g : Label) (i : ℕ) → i < n → liveLen cells i ≤ leafSize s g (leafAt named cells store i)
-  unfolding leafAt
-  leaf-live g i h = rw (live-text good i h, text-size (storedText cells store i)) (text-most (length (lead s g (placeAt cells i))) (storedText cells store i))
+  leaf_live : (g : Label) (i : ℕ) → i < n → live_len cells i ≤ leaf_size s g (leaf_at named cells store i)
+  unfolding leaf_at
+  leaf_live g i h = rw (live_text good i h, text_size_lem (stored_text cells store i)) (text_most (length (lead s g (place_at cells i))) (stored_text cells store i))
 
-  leaves-live : (g : Label) (i k : ℕ) → i + k ≤ n → liveSum cells i k ≤ length (printLeaves s g (list_of (leafAt named cells store) i k))
-  unfolding liveSum list_of
-  leaves-live g i zero h = omega arith
-  leaves-live g i (suc k) h =
-      rw (leaf-size s g (leafAt named cells store i) (list_of (leafAt named cells store) (suc i) k))
-      (omega (arith, leaf-live g i (omega arith), leaves-live g (suc i) k (omega arith)))
+  leaves_live : (g : Label) (i k : ℕ) → i + k ≤ n → live_sum cells i k ≤ length (print_leaves s g (list_of (leaf_at named cells store) i k))
+  unfolding live_sum list_of
+  leaves_live g i zero h = omega arith
+  leaves_live g i (suc k) h =
+      rw (leaf_size_lem s g (leaf_at named cells store i) (list_of (leaf_at named cells store) (suc i) k))
+      (omega (arith, leaf_live g i (omega arith), leaves_live g (suc i) k (omega arith)))
 
   module _ (labels : ℕ → Label) (firsts : ℕ → ℕ) (m : ℕ) (up : (i j : ℕ) → i ≤ j → j ≤ m → firsts i ≤ firsts j) (all : firsts m ≡ n) where
-    segments-live : (k j : ℕ) → k + j ≡ m → liveSum cells (firsts k) (n - firsts k) ≤ length (printSegments s cr (list_of (segmentOf labels firsts (leafAt named cells store)) k j))
-    unfolding list_of segmentOf
-    segments-live k zero e =
+    segments_live : (k j : ℕ) → k + j ≡ m → live_sum cells (firsts k) (n - firsts k) ≤ length (print_segments s cr (list_of (segment_of labels firsts (leaf_at named cells store)) k j))
+    unfolding list_of segment_of
+    segments_live k zero e =
         let q : k ≡ m = omega arith in
         let z : n - n ≡ 0 = omega arith in
-        rw (q, all, z) (unfold liveSum in omega arith)
-    segments-live k (suc j) e =
+        rw (q, all, z) (unfold live_sum in omega arith)
+    segments_live k (suc j) e =
         let a = up k (suc k) (omega arith) (omega arith) in
         let b = up (suc k) m (omega arith) (omega arith) in
-        let p = sum-parts cells (firsts k) (firsts (suc k)) n a (omega (arith, b, all)) in
+        let p = sum_parts cells (firsts k) (firsts (suc k)) n a (omega (arith, b, all)) in
         omega (
           arith,
           p,
-          leaves-live (labels k) (firsts k) (firsts (suc k) - firsts k) (omega (arith, a, b, all)),
-          segments-live (suc k) j (omega arith),
-          segment-size s cr (labels k) (list_of (leafAt named cells store) (firsts k) (firsts (suc k) - firsts k)) (list_of (segmentOf labels firsts (leafAt named cells store)) (suc k) j),
+          leaves_live (labels k) (firsts k) (firsts (suc k) - firsts k) (omega (arith, a, b, all)),
+          segments_live (suc k) j (omega arith),
+          segment_size s cr (labels k) (list_of (leaf_at named cells store) (firsts k) (firsts (suc k) - firsts k)) (list_of (segment_of labels firsts (leaf_at named cells store)) (suc k) j),
         )
 
-    pub live-printed : firsts 0 ≡ 0 → liveSum cells 0 n ≤ length (printSegments s cr (list_of (segmentOf labels firsts (leafAt named cells store)) 0 m))
-    live-printed e =
+    pub live_printed : firsts 0 ≡ 0 → live_sum cells 0 n ≤ length (print_segments s cr (list_of (segment_of labels firsts (leaf_at named cells store)) 0 m))
+    live_printed e =
         let z : n - 0 ≡ n = omega arith in
-        rw (e, z) at (segments-live 0 m (omega arith))
+        rw (e, z) at (segments_live 0 m (omega arith))
 
 -- ---- a turn behind it
 
@@ -125,81 +125,81 @@ module _ (text : Text) (on : Setting) (named : List Bool) (report : Text) (known
   abbrev behind : Buffers
   behind = buffers named cells' store' report bytes' known
 
-  same-knowing : knownNow text bytes' known c' ≡ knownNow text bytes known c
-  same-knowing = known_same h.known w.room.beside c' w.known
+  same_knowing : known_now text bytes' known c' ≡ known_now text bytes known c
+  same_knowing = known_same h.known w.room.beside c' w.known
 
-  room-held : Held text on.leaves behind c'
-  room-held = record { good = w.room.good; known = held_same h.known w.room.beside c' w.known w.known-used; marks = h.marks }
+  room_held : Held text on.leaves behind c'
+  room_held = record { good = w.room.good; known = held_same h.known w.room.beside c' w.known w.known_used; marks = h.marks }
 
-  room-recorded : (b : Progress) → RecordedIn text before c b → RecordedIn text behind c' b
-  room-recorded b k = record {
+  room_recorded : (b : Progress) → RecordedIn text before c b → RecordedIn text behind c' b
+  room_recorded b k = record {
     rows = k.rows;
-    is = rw (same-knowing, w.size) k.is;
+    is = rw (same_knowing, w.size) k.is;
     count = w.rows ∙ k.count;
     reported = rw w.report k.reported;
   }
 
   module _ (P : List Known → Pass) (segs : List ℕ) (z : Segmented segs on.segments on.leaves) (β : Buffers) where
-    same-pass : P (knownNow text bytes' known c') ≡ P (knownNow text bytes known c)
-    same-pass = ap P same-knowing
+    same_pass : P (known_now text bytes' known c') ≡ P (known_now text bytes known c)
+    same_pass = ap P same_knowing
 
-    room-turned : (r : Done) → TurnTaken P on segs text behind c' β r → TurnTaken P on segs text before c β r
-    room-turned (Going x) t =
-        let q = room-segments w.room (label_at segs) (firstLeaf segs) on.segments z.order z.all (marked named) in
+    room_turned : (r : Done) → TurnTaken P on segs text behind c' β r → TurnTaken P on segs text before c β r
+    room_turned (Going x) t =
+        let q = room_segments w.room (label_at segs) (first_leaf segs) on.segments z.order z.all (marked named) in
         record {
           out = record {
             advanced = λ b k.
-                let a = rw same-pass at (t.out.advanced b (room-recorded b k)) in
+                let a = rw same_pass at (t.out.advanced b (room_recorded b k)) in
                 record { progress = a.progress; stands = a.stands; all = record { here = a.all.here ∙ rw q; progress = sym (rw q) ∙ a.all.progress } };
             held = t.out.held;
-            kept = record { place = λ j. t.out.kept.place j ∙ w.room.place j; cells = t.out.kept.cells ∙ w.room.cells-long; report = t.out.kept.report };
+            kept = record { place = λ j. t.out.kept.place j ∙ w.room.place j; cells = t.out.kept.cells ∙ w.room.cells_long; report = t.out.kept.report };
             more = record { rows = omega (arith, t.out.more.rows, w.rows); report = omega (arith, t.out.more.report, w.report) };
             most = t.out.most;
           };
         }
-    room-turned (Stopped e) t =
-        let q = room-segments w.room (label_at segs) (firstLeaf segs) on.segments z.order z.all (marked named) in
-        record { out = λ b k. sym (rw (q, same-pass)) ∙ t.out b (room-recorded b k) }
+    room_turned (Stopped e) t =
+        let q = room_segments w.room (label_at segs) (first_leaf segs) on.segments z.order z.all (marked named) in
+        record { out = λ b k. sym (rw (q, same_pass)) ∙ t.out b (room_recorded b k) }
 
     pub room_next : {d : Done} → d ≡ Going c → {r : Done} → TurnTaken P on segs text behind c' β r → NextIs P on text segs before d β r
-    room_next e {r} t = rw e (record { out = room-turned r t })
+    room_next e {r} t = rw e (record { out = room_turned r t })
 
 -- the fields are in order behind it, too
-pub room-ordered : {segs : List ℕ} {m n : ℕ} {cells cells' : List ℕ} {store store' bytes bytes' : Text} {c c' : Counters} → Segmented segs m n → MadeRoom n cells store bytes c cells' store' bytes' c'
+pub room_ordered : {segs : List ℕ} {m n : ℕ} {cells cells' : List ℕ} {store store' bytes bytes' : Text} {c c' : Counters} → Segmented segs m n → MadeRoom n cells store bytes c cells' store' bytes' c'
     → AllOrdered segs cells m → AllOrdered segs cells' m
-room-ordered {segs} {m} {n} {cells} {cells'} {store} {store'} z w a = record {
+room_ordered {segs} {m} {n} {cells} {cells'} {store} {store'} z w a = record {
   ordered = λ k h.
-      ordered-as (buffers [] cells store [] [] []) (buffers [] cells' store' [] [] [])
+      ordered_as (buffers [] cells store [] [] []) (buffers [] cells' store' [] [] [])
       (λ j x y. w.room.leaf (marked []) j (omega (arith, z.order (k + 1) m (omega arith) (omega arith), z.all))) (a.ordered k h);
 }
 
 -- a turn by the tally that it was lent, with the counters c before and r behind it
 module _ {P : List Known → Pass} {on : Setting} {segs : List ℕ} {text : Text} {β₀ β : Buffers} {c₀ c : Counters} {d : Done} (e : c₀ ≡ c) (t : TurnTaken P on segs text β₀ c₀ β d) where
-  pub turn-made : {c₁ r : Counters} → d ≡ Going c₁ → r ≡ c₁ → TurnTaken P on segs text β₀ c β (Going r)
-  turn-made q f = rw (← e, f) (rw q at t)
+  pub turn_made : {c₁ r : Counters} → d ≡ Going c₁ → r ≡ c₁ → TurnTaken P on segs text β₀ c β (Going r)
+  turn_made q f = rw (← e, f) (rw q at t)
 
-  pub turn-refused : {x : Refusal} → d ≡ Stopped x → TurnTaken P on segs text β₀ c β (Stopped x)
-  turn-refused q = rw (← e) (rw q at t)
+  pub turn_refused : {x : Refusal} → d ≡ Stopped x → TurnTaken P on segs text β₀ c β (Stopped x)
+  turn_refused q = rw (← e) (rw q at t)
 
 -- a run that was refused before
-pub next-stopped : {P : List Known → Pass} {on : Setting} {text : Text} {segs : List ℕ} {β β' : Buffers} {d : Done} {e : Refusal} → d ≡ Stopped e → NextIs P on text segs β d β' (Stopped e)
-next-stopped q = rw q (record { out = refl })
+pub next_stopped : {P : List Known → Pass} {on : Setting} {text : Text} {segs : List ℕ} {β β' : Buffers} {d : Done} {e : Refusal} → d ≡ Stopped e → NextIs P on text segs β d β' (Stopped e)
+next_stopped q = rw q (record { out = refl })
 
 -- what stands before a turn, by how far the run has come
 module _ (text : Text) (segs : List ℕ) (on : Setting) (β : Buffers) (r : Done) where
-  pub turn-ready-going : {c : Counters} → TurnReadyOr text segs on β r → r ≡ Going c → TurnReady text segs on β c
-  turn-ready-going g e = subst (TurnReadyOr text segs on β) e g
+  pub turn_ready_going : {c : Counters} → TurnReadyOr text segs on β r → r ≡ Going c → TurnReady text segs on β c
+  turn_ready_going g e = subst (TurnReadyOr text segs on β) e g
 
 module _ {text : Text} {segs : List ℕ} {on : Setting} {β : Buffers} {c : Counters} (p : TurnReady text segs on β c) where
-  pub turn-ready-room : RoomFor on.leaves β.cells β.store c
-  turn-ready-room = record { good = p.held.good; live = omega (arith, p.live, p.most); beside = p.held.known.good.within }
+  pub turn_ready_room : RoomFor on.leaves β.cells β.store c
+  turn_ready_room = record { good = p.held.good; live = omega (arith, p.live, p.most); beside = p.held.known.good.within }
 
   -- the room that a turn asks for
-  ready-room-left : on.leaves ≤ LEAVES_MAX → {cells' : List ℕ} {store' bytes' : Text} {c' : Counters} → MadeRoom on.leaves β.cells β.store β.bytes c cells' store' bytes' c'
+  ready_room_left : on.leaves ≤ LEAVES_MAX → {cells' : List ℕ} {store' bytes' : Text} {c' : Counters} → MadeRoom on.leaves β.cells β.store β.bytes c cells' store' bytes' c'
       → (node : Bool) → RoomLeft node cells' 0 on.leaves c'
-  ready-room-left few {c' = c'} w node = made-room-left w.room c' refl (rw w.size p.live) (rw w.size p.most) few (rw w.rows p.rows) (rw w.report p.report) node
+  ready_room_left few {c' = c'} w node = made_room_left w.room c' refl (rw w.size p.live) (rw w.size p.most) few (rw w.rows p.rows) (rw w.report p.report) node
 
-pub room-ahead : {text : Text} {segs : List ℕ} (job : Job) {named : List Bool} {report : Text} {known cells cells' : List ℕ} {store store' bytes bytes' : Text} {c c' : Counters}
+pub room_ahead : {text : Text} {segs : List ℕ} (job : Job) {named : List Bool} {report : Text} {known cells cells' : List ℕ} {store store' bytes bytes' : Text} {c c' : Counters}
     → TurnReady text segs job.on (buffers named cells store report bytes known) c → job.on.leaves ≤ LEAVES_MAX → MadeRoom job.on.leaves cells store bytes c cells' store' bytes' c'
     → Ahead text job 0 (buffers named cells' store' report bytes' known) c'
-room-ahead {text} job {named} {report} {known} p few w = record { held = room-held text job.on named report known w p.held; room-left = ready-room-left p few w (byNode job.turn) }
+room_ahead {text} job {named} {report} {known} p few w = record { held = room_held text job.on named report known w p.held; room_left = ready_room_left p few w (by_node job.turn) }

@@ -7,56 +7,56 @@ use native.Mathlib.Numerals.{add-one}
 use native.Mathlib.Omega.{arith}
 use lib.ListN.{length, replicate, get_or, take}
 use Rattle.text.specs.Text.{Text, part, Wrote}
-use Rattle.text.proofs.Writes.{wrote-length}
+use Rattle.text.proofs.Writes.{wrote_length}
 use Rattle.refusal.specs.declared.Refusal.{Refusal}
 use Rattle.refusal.specs.Limits.{LEAVES_MAX, TEXT_MAX}
-use Rattle.message_model.specs.Message.{Segment, Message, printSegments, printMessage}
+use Rattle.message_model.specs.Message.{Segment, Message, print_segments, print_message}
 use Rattle.policy_model.specs.Policy.{Policy}
 use Rattle.run_model.specs.Redact as R
-use Rattle.run_model.specs.Redact.{Progress, running, redactedAs, redactFrom}
-use Rattle.er7_table.specs.Table.{firstLeaf, label_at, segmentAt, segmentsFrom, leavesFrom, Good}
-use Rattle.er7_table.proofs.Laws.{list_ext, segments-named}
+use Rattle.run_model.specs.Redact.{Progress, running, redacted_as, redact_from}
+use Rattle.er7_table.specs.Table.{first_leaf, label_at, segment_at, segments_from, leaves_from, Good}
+use Rattle.er7_table.proofs.Laws.{list_ext, segments_named}
 use Rattle.er7_message.specs.Parsed.{Standing}
 use Rattle.er7_message.specs.declared.message.Layout.{Layout}
 use Rattle.er7_message.specs.declared.message.ParsedMessage.TheVariants.{Read}
-use Rattle.er7_message.proofs.Parsing.{standing-over}
+use Rattle.er7_message.proofs.Parsing.{standing_over}
 use Rattle.er7_render.specs.Rendered.{rendered}
-use Rattle.er7_render.proofs.Laws.{rendered-named}
-use Rattle.text.proofs.Kept.{wrote-part}
-use Rattle.redact_6_row.proofs.Rows.{reported-none}
-use Rattle.redact_5_act.specs.Known.{knownFrom, GoodKnown}
+use Rattle.er7_render.proofs.Laws.{rendered_named}
+use Rattle.text.proofs.Kept.{wrote_part}
+use Rattle.redact_6_row.proofs.Rows.{reported_none}
+use Rattle.redact_5_act.specs.Known.{known_from, GoodKnown}
 use Rattle.redact_5_act.specs.declared.state.Setting.{Setting}
 use Rattle.redact_5_act.specs.declared.state.Counters.{Counters}
 use Rattle.redact_5_act.specs.declared.state.Done.{Done}
 use Rattle.redact_5_act.specs.declared.state.Done.TheVariants.{Going, Stopped}
-use Rattle.redact_4_leaf.specs.Walk.{segmentOf}
-use Rattle.redact_4_leaf.specs.State.{Buffers, buffers, leaves, marked, knownNow}
-use Rattle.redact_1_run.specs.Turns.{tasksOf, afterTasks, progressTasks}
-use Rattle.redact_1_run.specs.Stage.{segmentsOf, Stage, Stands, Begun, Inputs}
+use Rattle.redact_4_leaf.specs.Walk.{segment_of}
+use Rattle.redact_4_leaf.specs.State.{Buffers, buffers, leaves, marked, known_now}
+use Rattle.redact_1_run.specs.Turns.{tasks_of, after_tasks, progress_tasks}
+use Rattle.redact_1_run.specs.Stage.{segments_of, Stage, Stands, Begun, Inputs}
 use Rattle.redact_1_run.specs.Ran.{Loaded, AnyLoaded, Printable, Ran, RedactedIs}
 use Rattle.redact_1_run.specs.declared.core.Redacted.TheVariants.{Redacted as Whole, Refused}
-use Rattle.redact_1_run.proofs.Tasks.{tasks-redact}
+use Rattle.redact_1_run.proofs.Tasks.{tasks_redact}
 
 -- ---- the segments that the buffers hold, as the tables' definitions have them
 
-segment-as : (named : List Bool) (segs cells : List ℕ) (store report bytes : Text) (known : List ℕ) (k : ℕ)
-    → segmentOf (label_at segs) (firstLeaf segs) (leaves (buffers named cells store report bytes known)) k ≡ segmentAt (marked named) segs cells store k
-unfolding segmentOf segmentAt leavesFrom
-segment-as named segs cells store report bytes known k = rw add-one
+segment_as : (named : List Bool) (segs cells : List ℕ) (store report bytes : Text) (known : List ℕ) (k : ℕ)
+    → segment_of (label_at segs) (first_leaf segs) (leaves (buffers named cells store report bytes known)) k ≡ segment_at (marked named) segs cells store k
+unfolding segment_of segment_at leaves_from
+segment_as named segs cells store report bytes known k = rw add-one
 
-segments-as : (named : List Bool) (segs cells : List ℕ) (store report bytes : Text) (known : List ℕ) (on : Setting)
-    → segmentsOf segs on (buffers named cells store report bytes known) ≡ segmentsFrom (marked named) segs cells store 0 on.segments
-unfolding segmentsOf segmentsFrom
-segments-as named segs cells store report bytes known on = list_ext _ _ 0 on.segments (λ k a b. segment-as named segs cells store report bytes known k)
+segments_as : (named : List Bool) (segs cells : List ℕ) (store report bytes : Text) (known : List ℕ) (on : Setting)
+    → segments_of segs on (buffers named cells store report bytes known) ≡ segments_from (marked named) segs cells store 0 on.segments
+unfolding segments_of segments_from
+segments_as named segs cells store report bytes known on = list_ext _ _ 0 on.segments (λ k a b. segment_as named segs cells store report bytes known k)
 
 clear : (n i : ℕ) → get_or (replicate n false) i false ≡ false
 clear zero i = refl
 clear (suc n) zero = refl
 clear (suc n) (suc i) = clear n i
 
-marks-clear : (i : ℕ) → marked (replicate LEAVES_MAX false) i ≡ false
+marks_clear : (i : ℕ) → marked (replicate LEAVES_MAX false) i ≡ false
 unfolding marked
-marks-clear i = clear LEAVES_MAX i
+marks_clear i = clear LEAVES_MAX i
 
 -- ---- the start
 
@@ -71,27 +71,27 @@ module _ (key : ℕ) (sweep : Bool) {message : Text} {m : Message} {policy : Tex
     {store store' : Text} {used : ℕ} (p : Wrote store 0 message store' used) (report bytes : Text) (known : List ℕ) where
   front : take (length message) store' ≡ message
   unfolding part
-  front = wrote-part p
+  front = wrote_part p
 
   over : Standing store' m segs cells layout
-  over = standing-over message store' m segs cells (Read layout) front (omega (arith, wrote-length p, p.high, p.end)) w.standing
+  over = standing_over message store' m segs cells (Read layout) front (omega (arith, wrote_length p, p.high, p.end)) w.standing
 
-  abbrev first-buffers : Buffers
-  first-buffers = buffers (replicate LEAVES_MAX false) cells store' report bytes known
+  abbrev first_buffers : Buffers
+  first_buffers = buffers (replicate LEAVES_MAX false) cells store' report bytes known
 
-  first-segments : segmentsOf segs (setting_of key sweep layout) first-buffers ≡ m.segments
-  first-segments =
-      segments-as (replicate LEAVES_MAX false) segs cells store' report bytes known (setting_of key sweep layout)
-      ∙ segments-named (λ i. false) (marked (replicate LEAVES_MAX false)) segs cells store' layout.segments layout.leaves w.standing.segmented (λ k h. marks-clear k)
+  first_segments : segments_of segs (setting_of key sweep layout) first_buffers ≡ m.segments
+  first_segments =
+      segments_as (replicate LEAVES_MAX false) segs cells store' report bytes known (setting_of key sweep layout)
+      ∙ segments_named (λ i. false) (marked (replicate LEAVES_MAX false)) segs cells store' layout.segments layout.leaves w.standing.segmented (λ k h. marks_clear k)
       ∙ over.segments
 
-  first-print : length message ≡ length (printSegments layout.separators m.lastCR m.segments)
-  unfolding printMessage
-  first-print = rw w.standing.separators (ap length (sym w.prints))
+  first_print : length message ≡ length (print_segments layout.separators m.last_cr m.segments)
+  unfolding print_message
+  first_print = rw w.standing.separators (ap length (sym w.prints))
 
-  first-known : GoodKnown bytes known 0 0
-  unfolding knownFrom R.knownBytes
-  first-known = record {
+  first_known : GoodKnown bytes known 0 0
+  unfolding known_from R.knownBytes
+  first_known = record {
     few = omega arith;
     within = omega arith;
     slots = λ i h. absurd (omega arith);
@@ -99,116 +99,116 @@ module _ (key : ℕ) (sweep : Bool) {message : Text} {m : Message} {policy : Tex
     sum = refl;
   }
 
-  first-stage : Stage (size - length message) m.lastCR policy segs (setting_of key sweep layout) 0 m.segments (running [] [] size) first-buffers (started size used)
-  unfolding knownNow knownFrom
-  first-stage = record {
-    segments = first-segments;
-    recorded = record { rows = []; is = refl; count = refl; reported = reported-none report };
-    size = omega (arith, first-print, w.within);
+  first_stage : Stage (size - length message) m.last_cr policy segs (setting_of key sweep layout) 0 m.segments (running [] [] size) first_buffers (started size used)
+  unfolding known_now known_from
+  first_stage = record {
+    segments = first_segments;
+    recorded = record { rows = []; is = refl; count = refl; reported = reported_none report };
+    size = omega (arith, first_print, w.within);
     most = w.most;
     chained = w.chained;
     first = w.first;
     held = record {
-      good = record { rows = w.standing.good.rows; room = omega (arith, wrote-length p, p.high); ends = λ i h. omega (arith, w.standing.good.ends i h, p.end) };
-      known = record { good = first-known; held = record { held = λ i h. absurd (omega arith) } };
-      marks = w.standing.leaves-most;
+      good = record { rows = w.standing.good.rows; room = omega (arith, wrote_length p, p.high); ends = λ i h. omega (arith, w.standing.good.ends i h, p.end) };
+      known = record { good = first_known; held = record { held = λ i h. absurd (omega arith) } };
+      marks = w.standing.leaves_most;
     };
     rows = omega arith;
     report = omega arith;
   }
 
-  pub first-stands : Stands (size - length message) m.lastCR policy segs (setting_of key sweep layout) 0 m.segments (running [] [] size) first-buffers (Going (started size used))
-  first-stands = record { out = first-stage }
+  pub first_stands : Stands (size - length message) m.last_cr policy segs (setting_of key sweep layout) 0 m.segments (running [] [] size) first_buffers (Going (started size used))
+  first_stands = record { out = first_stage }
 
 module _ {message policy : Text} {size : ℕ} {layout : Layout} {segs cells : List ℕ} (w : AnyLoaded message policy size layout segs cells) where
-  pub run-begun : (key : ℕ) (sweep : Bool) {store store' : Text} {used : ℕ} → Wrote store 0 message store' used → (report bytes : Text) (known : List ℕ)
+  pub run_begun : (key : ℕ) (sweep : Bool) {store store' : Text} {used : ℕ} → Wrote store 0 message store' used → (report bytes : Text) (known : List ℕ)
       → Begun policy segs (setting_of key sweep layout) (buffers (replicate LEAVES_MAX false) cells store' report bytes known) (Going (started size used))
-  run-begun key sweep p report bytes known = record {
+  run_begun key sweep p report bytes known = record {
     x = size - length message;
-    cr = w.message.lastCR;
+    cr = w.message.last_cr;
     ss = w.message.segments;
     progress = running [] [] size;
-    stands = first-stands key sweep w.loaded p report bytes known;
+    stands = first_stands key sweep w.loaded p report bytes known;
   }
 
   pub run_lent : (key : ℕ) (sweep : Bool) → Inputs policy segs (setting_of key sweep layout)
   run_lent key sweep = record {
-    policy = w.loaded.policy-short;
+    policy = w.loaded.policy_short;
     named = w.loaded.named;
     segmented = w.loaded.standing.segmented;
-    leaves = w.loaded.standing.leaves-most;
+    leaves = w.loaded.standing.leaves_most;
   }
 
-  pub message-room : length message ≤ TEXT_MAX
-  message-room = omega (arith, w.loaded.within, w.loaded.most)
+  pub message_room : length message ≤ TEXT_MAX
+  message_room = omega (arith, w.loaded.within, w.loaded.most)
 
 -- ---- the end
 
 module _ (key : ℕ) (sweep : Bool) {x : ℕ} {cr : Bool} {text : Text} {layout : Layout} {segs : List ℕ} {turns : ℕ} {ss : List Segment} {b : Progress} (named : List Bool) (cells : List ℕ) (store report bytes : Text) (known : List ℕ) {c : Counters}
     (g : Stage x cr text segs (setting_of key sweep layout) turns ss b (buffers named cells store report bytes known) c) (e : layout.last_cr ≡ cr) where
-  prints-as : printSegments layout.separators cr ss ≡ rendered layout segs cells store
-  prints-as =
-      rw (← e) (ap (printSegments layout.separators layout.last_cr) (sym g.segments ∙ segments-as named segs cells store report bytes known (setting_of key sweep layout))
-      ∙ sym (rendered-named layout (marked named) segs cells store))
+  prints_as : print_segments layout.separators cr ss ≡ rendered layout segs cells store
+  prints_as =
+      rw (← e) (ap (print_segments layout.separators layout.last_cr) (sym g.segments ∙ segments_as named segs cells store report bytes known (setting_of key sweep layout))
+      ∙ sym (rendered_named layout (marked named) segs cells store))
 
-  end-good : Good cells store layout.leaves (length store)
-  end-good = record { rows = g.held.good.rows; room = omega arith; ends = λ i h. omega (arith, g.held.good.ends i h, g.held.good.room) }
+  end_good : Good cells store layout.leaves (length store)
+  end_good = record { rows = g.held.good.rows; room = omega arith; ends = λ i h. omega (arith, g.held.good.ends i h, g.held.good.room) }
 
-  end-long : c.size ≡ x + length (rendered layout segs cells store)
-  end-long = g.size ∙ ap (λ t. x + length t) prints-as
+  end_long : c.size ≡ x + length (rendered layout segs cells store)
+  end_long = g.size ∙ ap (λ t. x + length t) prints_as
 
 -- what is left by all turns, f, from the first buffers
 module _ (key : ℕ) (sweep : Bool) (P : Policy) {message : Text} {m : Message} {policy : Text} {size : ℕ} {layout : Layout} {segs cells₀ : List ℕ} (w : Loaded message m policy size layout segs cells₀)
     {store₀ store₁ : Text} {used : ℕ} (p : Wrote store₀ 0 message store₁ used) (report₁ bytes₁ : Text) (known₁ : List ℕ) (named : List Bool) (cells : List ℕ) (store report bytes : Text) (known : List ℕ) (r : Done)
     (f : (x : ℕ) (cr : Bool) (ss : List Segment) (b : Progress) → Stands x cr policy segs (setting_of key sweep layout) 0 ss b (buffers (replicate LEAVES_MAX false) cells₀ store₁ report₁ bytes₁ known₁) (Going (started size used))
-    → Stands x cr policy segs (setting_of key sweep layout) 130 (afterTasks key layout.separators P (tasksOf P) ss b) (progressTasks key layout.separators P (tasksOf P) ss b) (buffers named cells store report bytes known) r) where
+    → Stands x cr policy segs (setting_of key sweep layout) 130 (after_tasks key layout.separators P (tasks_of P) ss b) (progress_tasks key layout.separators P (tasks_of P) ss b) (buffers named cells store report bytes known) r) where
   abbrev ss' : List Segment
-  ss' = afterTasks key layout.separators P (tasksOf P) m.segments (running [] [] size)
+  ss' = after_tasks key layout.separators P (tasks_of P) m.segments (running [] [] size)
 
   abbrev b' : Progress
-  b' = progressTasks key layout.separators P (tasksOf P) m.segments (running [] [] size)
+  b' = progress_tasks key layout.separators P (tasks_of P) m.segments (running [] [] size)
 
-  last-stands : Stands (size - length message) m.lastCR policy segs (setting_of key sweep layout) 130 ss' b' (buffers named cells store report bytes known) r
-  last-stands = f (size - length message) m.lastCR m.segments (running [] [] size) (first-stands key sweep w p report₁ bytes₁ known₁)
+  last_stands : Stands (size - length message) m.last_cr policy segs (setting_of key sweep layout) 130 ss' b' (buffers named cells store report bytes known) r
+  last_stands = f (size - length message) m.last_cr m.segments (running [] [] size) (first_stands key sweep w p report₁ bytes₁ known₁)
 
-  run_is : redactFrom size key P m ≡ redactedAs layout.separators m.lastCR b' ss'
-  run_is = rw w.standing.separators (tasks-redact key size P m)
+  run_is : redact_from size key P m ≡ redacted_as layout.separators m.last_cr b' ss'
+  run_is = rw w.standing.separators (tasks_redact key size P m)
 
   module _ {c : Counters} (e : r ≡ Going c) where
-    last-stage : Stage (size - length message) m.lastCR policy segs (setting_of key sweep layout) 130 ss' b' (buffers named cells store report bytes known) c
-    last-stage = (rw e at last-stands).out
+    last_stage : Stage (size - length message) m.last_cr policy segs (setting_of key sweep layout) 130 ss' b' (buffers named cells store report bytes known) c
+    last_stage = (rw e at last_stands).out
 
-    pub end-most : c.size ≤ TEXT_MAX
-    end-most = last-stage.most
+    pub end_most : c.size ≤ TEXT_MAX
+    end_most = last_stage.most
 
-    pub end-printable : {len : ℕ} → len ≡ c.size + used - size → Printable layout segs cells store len
-    end-printable q = record {
+    pub end_printable : {len : ℕ} → len ≡ c.size + used - size → Printable layout segs cells store len
+    end_printable q = record {
       segmented = w.standing.segmented;
       named = w.named;
-      good = end-good key sweep named cells store report bytes known last-stage w.standing.last;
-      long = omega (arith, q, end-long key sweep named cells store report bytes known last-stage w.standing.last, w.within, p.end);
+      good = end_good key sweep named cells store report bytes known last_stage w.standing.last;
+      long = omega (arith, q, end_long key sweep named cells store report bytes known last_stage w.standing.last, w.within, p.end);
     }
 
-    pub end-ran : Ran (redactFrom size key P m) layout segs cells store report c
-    unfolding redactedAs
-    end-ran = record {
-      rows = last-stage.recorded.rows;
-      is = run_is ∙ rw last-stage.recorded.is (ap (λ u. R.done u last-stage.recorded.rows) (prints-as key sweep named cells store report bytes known last-stage w.standing.last));
-      count = last-stage.recorded.count;
-      reported = last-stage.recorded.reported;
+    pub end_ran : Ran (redact_from size key P m) layout segs cells store report c
+    unfolding redacted_as
+    end_ran = record {
+      rows = last_stage.recorded.rows;
+      is = run_is ∙ rw last_stage.recorded.is (ap (λ u. R.done u last_stage.recorded.rows) (prints_as key sweep named cells store report bytes known last_stage w.standing.last));
+      count = last_stage.recorded.count;
+      reported = last_stage.recorded.reported;
     }
 
-  pub end_refused : {e : Refusal} → r ≡ Stopped e → (output report' : Text) → RedactedIs (redactFrom size key P m) output output report' (Refused e)
-  unfolding redactedAs
-  end_refused q output report' = let s = rw q at last-stands in record { out = (run_is ∙ rw s.out, refl) }
+  pub end_refused : {e : Refusal} → r ≡ Stopped e → (output report' : Text) → RedactedIs (redact_from size key P m) output output report' (Refused e)
+  unfolding redacted_as
+  end_refused q output report' = let s = rw q at last_stands in record { out = (run_is ∙ rw s.out, refl) }
 
 -- ---- `print_text`
 
 module _ {layout : Layout} {segs cells : List ℕ} {store : Text} {len : ℕ} (p : Printable layout segs cells store len) {output : Text} {c : Counters} where
   -- there is room for the text
-  pub text-fits : {output' : Text} {k : ℕ} → Wrote output 0 (rendered layout segs cells store) output' k → (d : R.Redacted) (report : Text) → Ran d layout segs cells store report c
+  pub text_fits : {output' : Text} {k : ℕ} → Wrote output 0 (rendered layout segs cells store) output' k → (d : R.Redacted) (report : Text) → Ran d layout segs cells store report c
       → RedactedIs d output output' report (Whole len c.report_len c.rows)
-  text-fits w d report g = record {
+  text_fits w d report g = record {
     out = record {
       text = rendered layout segs cells store;
       rows = g.rows;
@@ -222,8 +222,8 @@ module _ {layout : Layout} {segs cells : List ℕ} {store : Text} {len : ℕ} (p
   }
 
   -- there is none
-  pub text-full : length output < len → (d : R.Redacted) (report : Text) → Ran d layout segs cells store report c → RedactedIs d output output report (Whole len c.report_len c.rows)
-  text-full l d report g = record {
+  pub text_full : length output < len → (d : R.Redacted) (report : Text) → Ran d layout segs cells store report c → RedactedIs d output output report (Whole len c.report_len c.rows)
+  text_full l d report g = record {
     out = record {
       text = rendered layout segs cells store;
       rows = g.rows;

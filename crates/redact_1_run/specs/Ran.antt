@@ -1,7 +1,7 @@
 -- What redacting one message leaves. Assumes nothing: these are definitions.
 use Rattle.std.specs.Prelude.{◌≡◌, List, ℕ, ◌≤◌, ◌<◌, length}
 use Rattle.text.specs.Text.{Text, Wrote}
-use Rattle.message_model.specs.Message.{Message, printMessage}
+use Rattle.message_model.specs.Message.{Message, print_message}
 use Rattle.message_model.specs.Chain.{Chained}
 use Rattle.run_model.specs.Order.{FieldsFirst}
 use Rattle.run_model.specs.Redact as R
@@ -20,11 +20,11 @@ use Rattle.refusal.specs.Limits.{INPUT_MAX, TEXT_MAX}
 -- in its file
 pub record Loaded (t : Text) (m : Message) (policy : Text) (size : ℕ) (layout : Layout) (segs cells : List ℕ) : Type 0 where
   pub standing : Standing t m segs cells layout
-  pub prints : printMessage m ≡ t
+  pub prints : print_message m ≡ t
   pub chained : Chained m.segments
   pub first : FieldsFirst m.segments
   pub named : AllNamed segs layout.segments
-  pub policy-short : length policy ≤ INPUT_MAX
+  pub policy_short : length policy ≤ INPUT_MAX
   pub within : length t ≤ size
   pub most : size ≤ TEXT_MAX
 

@@ -1,31 +1,31 @@
 -- What stands between two turns of a run. Assumes nothing: these are definitions.
 use Rattle.std.specs.Prelude.{◌≡◌, Bool, List, ℕ, ◌+◌, ◌*◌, ◌≤◌, ◌^◌, length}
 use Rattle.text.specs.Text.{Text}
-use Rattle.message_model.specs.Message.{Segment, printSegments}
+use Rattle.message_model.specs.Message.{Segment, print_segments}
 use Rattle.message_model.specs.Chain.{Chained}
 use Rattle.run_model.specs.Order.{FieldsFirst}
 use Rattle.run_model.specs.Redact.{Known, Progress, stopped}
-use Rattle.er7_table.specs.Table.{list_of, firstLeaf, label_at, Good, Segmented, AllNamed}
-use Rattle.er7_render.specs.Stored.{liveSum, RoomMade}
+use Rattle.er7_table.specs.Table.{list_of, first_leaf, label_at, Good, Segmented, AllNamed}
+use Rattle.er7_render.specs.Stored.{live_sum, RoomMade}
 use Rattle.redact_5_act.specs.declared.state.Setting.{Setting}
 use Rattle.redact_5_act.specs.declared.state.Counters.{Counters}
 use Rattle.redact_5_act.specs.declared.state.Done.{Done}
 use Rattle.redact_5_act.specs.declared.state.Done.TheVariants.{Going, Stopped}
-use Rattle.redact_4_leaf.specs.Walk.{Pass, segmentOf}
+use Rattle.redact_4_leaf.specs.Walk.{Pass, segment_of}
 use Rattle.redact_4_leaf.specs.State.{Buffers, leaves, RecordedIn, Held}
 use Rattle.redact_2_turn.specs.Ordered.{AllOrdered}
 use Rattle.redact_2_turn.specs.Taken.{TurnTaken}
 use Rattle.refusal.specs.Limits.{INPUT_MAX, LEARNT_BYTES_MAX, LEAVES_MAX, TEXT_MAX}
 
 -- the segments that the buffers hold
-unfoldable pub segmentsOf : List ℕ → Setting → Buffers → List Segment
-segmentsOf segs on β = list_of (segmentOf (label_at segs) (firstLeaf segs) (leaves β)) 0 on.segments
+unfoldable pub segments_of : List ℕ → Setting → Buffers → List Segment
+segments_of segs on β = list_of (segment_of (label_at segs) (first_leaf segs) (leaves β)) 0 on.segments
 
 -- after some turns the buffers stand for the segments ss and for the progress b; x bytes stand beside the message in its file
 pub record Stage (x : ℕ) (cr : Bool) (text : Text) (segs : List ℕ) (on : Setting) (turns : ℕ) (ss : List Segment) (b : Progress) (β : Buffers) (c : Counters) : Type 0 where
-  pub segments : segmentsOf segs on β ≡ ss
+  pub segments : segments_of segs on β ≡ ss
   pub recorded : RecordedIn text β c b
-  pub size : c.size ≡ x + length (printSegments on.separators cr ss)
+  pub size : c.size ≡ x + length (print_segments on.separators cr ss)
   pub most : c.size ≤ TEXT_MAX
   pub chained : Chained ss
   pub first : FieldsFirst ss
@@ -60,7 +60,7 @@ pub record Inputs (text : Text) (segs : List ℕ) (on : Setting) : Type 0 where
 pub record TurnReady (text : Text) (segs : List ℕ) (on : Setting) (β : Buffers) (c : Counters) : Type 0 where
   pub held : Held text on.leaves β c
   pub ordered : AllOrdered segs β.cells on.segments
-  pub live : liveSum β.cells 0 on.leaves ≤ c.size
+  pub live : live_sum β.cells 0 on.leaves ≤ c.size
   pub most : c.size ≤ TEXT_MAX
   pub rows : c.rows ≤ 2 ^ 30
   pub report : c.report_len ≤ 2 ^ 46
@@ -72,7 +72,7 @@ TurnReadyOr text segs on β (Stopped e) = Unit {0}
 -- the texts of n leaves fit into the store twice
 pub record RoomFor (n : ℕ) (cells : List ℕ) (store : Text) (c : Counters) : Type 0 where
   pub good : Good cells store n c.used
-  pub live : liveSum cells 0 n ≤ TEXT_MAX
+  pub live : live_sum cells 0 n ≤ TEXT_MAX
   pub beside : c.known_used ≤ LEARNT_BYTES_MAX
 
 -- room was made in the store, with work behind the learnt values; no other counter changed
@@ -82,7 +82,7 @@ pub record MadeRoom (n : ℕ) (cells : List ℕ) (store bytes : Text) (c : Count
   pub report : r.report_len ≡ c.report_len
   pub size : r.size ≡ c.size
   pub known : r.known ≡ c.known
-  pub known-used : r.known_used ≡ c.known_used
+  pub known_used : r.known_used ≡ c.known_used
 
 -- a turn was taken, unless the run was refused before it
 abbrev pub NextOr : (List Known → Pass) → Setting → Text → List ℕ → Buffers → Done → Buffers → Done → Type 0

@@ -2,9 +2,9 @@
 ghost use Rattle.std.specs.Prelude.{◌≤◌, length};
 ghost use Rattle.text.specs.Text.{Text, Wrote};
 ghost use Rattle.message_model.specs.Message.{Message};
-ghost use Rattle.policy.specs.Policy.{asPolicy, PolicyHeld};
+ghost use Rattle.policy.specs.Policy.{as_policy, PolicyHeld};
 ghost use Rattle.run_model.specs.Redact as R;
-ghost use Rattle.run_model.specs.Redact.{redactFrom};
+ghost use Rattle.run_model.specs.Redact.{redact_from};
 ghost use Rattle.redact_1_run.specs.Ran.{Loaded, AnyLoaded, Printable, Ran, RedactedIs};
 ghost use Rattle.refusal.specs.Limits.{TEXT_MAX};
 
@@ -75,7 +75,7 @@ pub fn redact_from(
     report: &mut [u8],
 ) -> Redacted
     requires { PolicyHeld text.now policy × AnyLoaded message.now text.now size layout segs.now cells.old }
-    ensures { (m : Message) → Loaded message.now m text.now size layout segs.now cells.old → RedactedIs (redactFrom size key (asPolicy text.now policy) m) output.old output.new report.new result }
+    ensures { (m : Message) → Loaded message.now m text.now size layout segs.now cells.old → RedactedIs (redact_from size key (as_policy text.now policy) m) output.old output.new report.new result }
 {
     let mut store = [0u8; 98304];
     let mut bytes = [0u8; 65536];

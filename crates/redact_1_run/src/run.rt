@@ -2,10 +2,10 @@
 ghost use Rattle.std.specs.Prelude.{◌≡◌, Bool, List, ℕ};
 ghost use Rattle.message_model.specs.Message.{Segment};
 ghost use Rattle.run_model.specs.Redact.{Progress};
-ghost use Rattle.policy.specs.Policy.{asPolicy, PolicyHeld};
+ghost use Rattle.policy.specs.Policy.{as_policy, PolicyHeld};
 ghost use Rattle.redact_4_leaf.specs.State.{buffers};
-ghost use Rattle.redact_2_turn.specs.Turn.{passBy, JobHeld};
-ghost use Rattle.redact_1_run.specs.Turns.{RuleTurn, PostureTurn, turnOfSweep, TurnIs, ruleRow, afterTasks, progressTasks, tasksOf};
+ghost use Rattle.redact_2_turn.specs.Turn.{pass_by, JobHeld};
+ghost use Rattle.redact_1_run.specs.Turns.{RuleTurn, PostureTurn, turn_of_sweep, TurnIs, rule_row, after_tasks, progress_tasks, tasks_of};
 ghost use Rattle.redact_1_run.specs.Stage.{Stands, Begun, Inputs, TurnReadyOr, RoomFor, NextIs, MadeRoom};
 
 use er7_redact::policy::{Posture, Rule};
@@ -48,7 +48,7 @@ fn posture_turn(posture: Posture) -> Turn
 
 // The turn of the sweep: where nothing is known it has nothing to do.
 fn sweep_turn(done: Done) -> Turn
-    ensures { result ≡ turnOfSweep done }
+    ensures { result ≡ turn_of_sweep done }
 {
     match done {
         Done::Going(c) => {
@@ -63,7 +63,7 @@ fn sweep_turn(done: Done) -> Turn
 
 // The row of rule k of count rules; behind the last, any row.
 fn rule_row(k: usize, count: usize) -> usize
-    ensures { result ≡ ruleRow k count }
+    ensures { result ≡ rule_row k count }
 {
     if k < count {
         return k;
@@ -120,7 +120,7 @@ fn next_turn(
     done: Done,
 ) -> Done
     requires { JobHeld text.now job × Inputs text.now segs.now job.on × TurnReadyOr text.now segs.now job.on (buffers named.old cells.old store.old report.old bytes.old known.old) done }
-    ensures { NextIs (passBy text.now job) job.on text.now segs.now (buffers named.old cells.old store.old report.old bytes.old known.old) done (buffers named.new cells.new store.new report.new bytes.new known.new) result }
+    ensures { NextIs (pass_by text.now job) job.on text.now segs.now (buffers named.old cells.old store.old report.old bytes.old known.old) done (buffers named.new cells.new store.new report.new bytes.new known.new) result }
 {
     match done {
         Done::Going(c0) => {
@@ -152,7 +152,7 @@ pub fn run_turns(
     known: &mut [usize; KNOWN_CELLS],
 ) -> Run
     requires { PolicyHeld text.now policy × (on.sweep ≡ policy.sweep) × Inputs text.now segs.now on × Begun text.now segs.now on (buffers run.named cells.old store.old report.old bytes.old known.old) run.done }
-    ensures { (x : ℕ) (cr : Bool) (ss : List Segment) (b : Progress) → Stands x cr text.now segs.now on 0 ss b (buffers run.named cells.old store.old report.old bytes.old known.old) run.done → Stands x cr text.now segs.now on 130 (afterTasks on.key on.separators (asPolicy text.now policy) (tasksOf (asPolicy text.now policy)) ss b) (progressTasks on.key on.separators (asPolicy text.now policy) (tasksOf (asPolicy text.now policy)) ss b) (buffers result.named cells.new store.new report.new bytes.new known.new) result.done }
+    ensures { (x : ℕ) (cr : Bool) (ss : List Segment) (b : Progress) → Stands x cr text.now segs.now on 0 ss b (buffers run.named cells.old store.old report.old bytes.old known.old) run.done → Stands x cr text.now segs.now on 130 (after_tasks on.key on.separators (as_policy text.now policy) (tasks_of (as_policy text.now policy)) ss b) (progress_tasks on.key on.separators (as_policy text.now policy) (tasks_of (as_policy text.now policy)) ss b) (buffers result.named cells.new store.new report.new bytes.new known.new) result.done }
 {
     let mut named = run.named;
     let mut done = run.done;

@@ -7,24 +7,24 @@ use native.Mathlib.Omega.{arith}
 use Rattle.text.specs.Text.{Text}
 use Rattle.run_model.specs.Redact.{Known}
 use Rattle.er7_table.specs.Table.{cell}
-use Rattle.er7_render.specs.Stored.{liveLen}
-use Rattle.er7_render.proofs.Sums.{sum_same, sum_step, sum-parts}
+use Rattle.er7_render.specs.Stored.{live_len}
+use Rattle.er7_render.proofs.Sums.{sum_same, sum_step, sum_parts}
 use Rattle.redact_5_act.specs.declared.state.Setting.{Setting}
 use Rattle.redact_5_act.specs.declared.state.Counters.{Counters}
 use Rattle.redact_4_leaf.specs.Walk.{Pass}
 use Rattle.redact_4_leaf.specs.State.{Buffers, Held, Ready, NodeReady, RoomLeft}
 use Rattle.redact_4_leaf.specs.Visit.{Visited}
 use Rattle.redact_4_leaf.specs.declared.leaf.Spot.{Spot}
-use Rattle.redact_4_leaf.proofs.Acting.{live-length}
+use Rattle.redact_4_leaf.proofs.Acting.{live_length}
 use Rattle.refusal.specs.Limits.{TEXT_MAX}
 
 -- ---- before a leaf
 
 module _ {node : Bool} {text : Text} {n i : ℕ} {β : Buffers} {c : Counters} (h : Held text n β c) (f : RoomLeft node β.cells i n c) where
-  pub room-left-ready : node ≡ false → i < n → cell β.cells i 3 ≡ 0 → Ready β.cells β.store n i c
-  room-left-ready e l q =
+  pub room_left_ready : node ≡ false → i < n → cell β.cells i 3 ≡ 0 → Ready β.cells β.store n i c
+  room_left_ready e l q =
       let s = sum_step β.cells i n l in
-      let v = live-length β.cells i q in
+      let v = live_length β.cells i q in
       record {
         inside = l;
         good = h.good;
@@ -34,13 +34,13 @@ module _ {node : Bool} {text : Text} {n i : ℕ} {β : Buffers} {c : Counters} (
         report = omega (arith, f.report);
       }
 
-  pub room-left-node : node ≡ true → {end : ℕ} → i < end → end ≤ n → cell β.cells i 3 ≡ 0 → NodeReady β.cells β.store n i end c
-  room-left-node e {end} l k q = record {
+  pub room_left_node : node ≡ true → {end : ℕ} → i < end → end ≤ n → cell β.cells i 3 ≡ 0 → NodeReady β.cells β.store n i end c
+  room_left_node e {end} l k q = record {
     inside = l;
     ends = k;
     good = h.good;
     live = q;
-    texts = omega (arith, sum-parts β.cells i end n (omega arith) k, f.texts);
+    texts = omega (arith, sum_parts β.cells i end n (omega arith) k, f.texts);
     most = f.most;
     room = omega (arith, f.flat e);
     rows = omega (arith, f.few);
@@ -49,10 +49,10 @@ module _ {node : Bool} {text : Text} {n i : ℕ} {β : Buffers} {c : Counters} (
 
 module _ {node : Bool} {cells : List ℕ} {i n : ℕ} {c : Counters} (f : RoomLeft node cells i n c) where
   -- behind a leaf whose length may have changed
-  pub room-left-more : i < n → {cells' : List ℕ} {c' : Counters} → ((j : ℕ) → (j ≡ i → ⊥) → liveLen cells' j ≡ liveLen cells j)
-      → (node ≡ false → c'.used + c.size ≤ c.used + c'.size + liveLen cells i) → (node ≡ true → c'.used ≤ c.used + 2) → c.used ≤ c'.used
+  pub room_left_more : i < n → {cells' : List ℕ} {c' : Counters} → ((j : ℕ) → (j ≡ i → ⊥) → live_len cells' j ≡ live_len cells j)
+      → (node ≡ false → c'.used + c.size ≤ c.used + c'.size + live_len cells i) → (node ≡ true → c'.used ≤ c.used + 2) → c.used ≤ c'.used
       → c'.size ≤ TEXT_MAX → c'.rows ≤ c.rows + 1 → c'.report_len ≤ c.report_len + 65536 → RoomLeft node cells' (suc i) n c'
-  room-left-more h {cells'} lens paid flat grows most rows report =
+  room_left_more h {cells'} lens paid flat grows most rows report =
       let s = sum_same cells cells' (suc i) (n - suc i) (λ j l b. lens j (λ e. omega arith)) in
       record {
         sum = λ e. omega (arith, sum_step cells i n h, s, paid e, f.sum e);
@@ -65,9 +65,9 @@ module _ {node : Bool} {cells : List ℕ} {i n : ℕ} {c : Counters} (f : RoomLe
       }
 
   -- further on, where nothing was done
-  pub room-left-skip : {j : ℕ} → i ≤ j → j ≤ n → RoomLeft node cells j n c
-  room-left-skip {j} h l =
-      let s = sum-parts cells i j n h l in
+  pub room_left_skip : {j : ℕ} → i ≤ j → j ≤ n → RoomLeft node cells j n c
+  room_left_skip {j} h l =
+      let s = sum_parts cells i j n h l in
       record {
         sum = λ e. omega (arith, s, f.sum e);
         flat = λ e. omega (arith, f.flat e);

@@ -1,7 +1,7 @@
 -- The fields of a segment's leaves, in the order of the table, and the leaves that a turn passes by. Assumes nothing: these are definitions.
 use Rattle.std.specs.Prelude.{◌≡◌, Bool, true, false, not, ◌&&◌, List, ℕ, ◌+◌, ◌-◌, ◌≤◌, ◌<◌, eqb, ltb}
 use Rattle.message_model.specs.Message.{Label}
-use Rattle.er7_table.specs.Table.{cell, firstLeaf, label_at, asLabel}
+use Rattle.er7_table.specs.Table.{cell, first_leaf, label_at, as_label}
 use Rattle.redact_4_leaf.specs.State.{marked}
 use Rattle.redact_4_leaf.specs.declared.leaf.Spot.{Spot}
 use Rattle.redact_2_turn.specs.Turn.{enters, works}
@@ -18,7 +18,7 @@ pub record Ordered (cells : List ℕ) (first end : ℕ) : Type 0 where
 
 -- so it is in m segments
 pub record AllOrdered (segs cells : List ℕ) (m : ℕ) : Type 0 where
-  pub ordered : (k : ℕ) → k < m → Ordered cells (firstLeaf segs k) (firstLeaf segs (k + 1))
+  pub ordered : (k : ℕ) → k < m → Ordered cells (first_leaf segs k) (first_leaf segs (k + 1))
 
 -- the leaves from index `first` to index r are of fields before the field
 pub record StartAt (field first end r : ℕ) : Type 0 where
@@ -27,8 +27,8 @@ pub record StartAt (field first end r : ℕ) : Type 0 where
   pub before : (j : ℕ) → first ≤ j → j < r → j - first + 1 < field
 
 -- leaf i has not vanished and stands behind the field, which is 0 for none
-unfoldable pub isBehind : ℕ → List ℕ → ℕ → Bool
-isBehind field cells i = not (eqb field 0) && eqb (cell cells i 3) 0 && ltb field (cell cells i 4)
+unfoldable pub is_behind : ℕ → List ℕ → ℕ → Bool
+is_behind field cells i = not (eqb field 0) && eqb (cell cells i 3) 0 && ltb field (cell cells i 4)
 
 -- an aim has nothing to do with the leaves from index i to index r, and with the one at index r it has
 pub record Skipped (aim : Aim) (g : Label) (named : List Bool) (cells : List ℕ) (i end r : ℕ) : Type 0 where
@@ -45,11 +45,11 @@ pub record SegmentsSkipped (aim : Aim) (segs : List ℕ) (k m r : ℕ) : Type 0 
   pub here : r < m → enters aim (label_at segs r) ≡ true
 
 -- where leaf i of the same segment stands
-abbrev pub spotAt : Spot → ℕ → Spot
-spotAt at i = record { label = at.label; end = at.end; index = i }
+abbrev pub spot_at : Spot → ℕ → Spot
+spot_at at i = record { label = at.label; end = at.end; index = i }
 
 -- where the first leaf of segment k stands
 pub record SpotIs (segs : List ℕ) (k : ℕ) (at : Spot) : Type 0 where
-  pub label : asLabel at.label ≡ label_at segs k
-  pub first : at.index ≡ firstLeaf segs k
-  pub end : at.end ≡ firstLeaf segs (k + 1)
+  pub label : as_label at.label ≡ label_at segs k
+  pub first : at.index ≡ first_leaf segs k
+  pub end : at.end ≡ first_leaf segs (k + 1)

@@ -1,13 +1,13 @@
 // A turn of a run over all leaves of a message.
 ghost use Rattle.std.specs.Prelude.{◌≡◌, true, ◌+◌, ◌*◌, ◌≤◌, ◌<◌, length};
 ghost use Rattle.er7.specs.Path.{PathHeld};
-ghost use Rattle.er7_table.specs.Table.{label_at, asLabel, Segmented, BytesNamed, AllNamed};
-ghost use Rattle.redact_5_act.specs.State.{counted, afterStep};
+ghost use Rattle.er7_table.specs.Table.{label_at, as_label, Segmented, BytesNamed, AllNamed};
+ghost use Rattle.redact_5_act.specs.State.{counted, after_step};
 ghost use Rattle.redact_4_leaf.specs.State.{buffers};
 ghost use Rattle.redact_4_leaf.specs.Visit.{Visit};
 ghost use Rattle.redact_2_turn.specs.Turn as Turns;
-ghost use Rattle.redact_2_turn.specs.Turn.{noPath, aimAt, aimUnnamed, aim_of, works, byNode, passBy, TurnHeld, JobHeld};
-ghost use Rattle.redact_2_turn.specs.Ordered.{Rising, AllOrdered, StartAt, isBehind, Skipped, SegmentsSkipped, spotAt, SpotIs};
+ghost use Rattle.redact_2_turn.specs.Turn.{no_path, aim_at, aim_unnamed, aim_of, works, by_node, pass_by, TurnHeld, JobHeld};
+ghost use Rattle.redact_2_turn.specs.Ordered.{Rising, AllOrdered, StartAt, is_behind, Skipped, SegmentsSkipped, spot_at, SpotIs};
 ghost use Rattle.redact_2_turn.specs.Taken.{Ahead, Visitable, Passable, LeavesPassed, TurnTaken};
 ghost use Rattle.refusal.specs.Limits.{LEAVES_MAX};
 
@@ -59,7 +59,7 @@ pub struct Job {
 // What a rule with a path, whose name stands in text, looks at: no segment, if its name has not three bytes.
 fn aim_at(path: Path, text: &[u8]) -> Aim
     requires { PathHeld text.now path }
-    ensures { result ≡ aimAt text.now path }
+    ensures { result ≡ aim_at text.now path }
 {
     if path.segment_len != 3 {
         return Aim {
@@ -88,7 +88,7 @@ fn aim_at(path: Path, text: &[u8]) -> Aim
 
 // A path that names nothing and that every leaf fits.
 fn no_path() -> Path
-    ensures { result ≡ noPath }
+    ensures { result ≡ no_path }
 {
     Path {
         segment: 0,
@@ -103,7 +103,7 @@ fn no_path() -> Path
 
 // The leaves of every segment, or of none, that no rule named, with those that are empty or without.
 fn aim_unnamed(every: bool, empty: bool) -> Aim
-    ensures { result ≡ aimUnnamed every empty }
+    ensures { result ≡ aim_unnamed every empty }
 {
     Aim {
         every,
@@ -174,7 +174,7 @@ fn start_at(field: u64, first: usize, end: usize) -> usize
 // Whether an aim has to do with leaf i of a segment g with which it has to do.
 fn works_on(aim: Aim, g: Label, named: bool, i: usize, cells: &[usize]) -> bool
     requires { i * 8 + 8 ≤ length cells.now }
-    ensures { result ≡ works aim (asLabel g) named cells.now i }
+    ensures { result ≡ works aim (as_label g) named cells.now i }
 {
     let at = i * 8;
     if !index_fits(aim.path.field, cells[at + 4]) {
@@ -192,7 +192,7 @@ fn works_on(aim: Aim, g: Label, named: bool, i: usize, cells: &[usize]) -> bool
 // Whether leaf i has not vanished and stands behind the field, which is 0 for none.
 fn is_behind(field: u64, i: usize, cells: &[usize]) -> bool
     requires { i * 8 + 8 ≤ length cells.now }
-    ensures { result ≡ isBehind field cells.now i }
+    ensures { result ≡ is_behind field cells.now i }
 {
     let at = i * 8;
     (field != 0) & (cells[at + 3] == 0) & (field < (cells[at + 4] as u64))
@@ -208,7 +208,7 @@ fn skip(
     end: usize,
 ) -> usize
     requires { (i ≤ end) × (end * 8 ≤ length cells.now) × (end ≤ LEAVES_MAX) × Rising cells.now i end }
-    ensures { Skipped aim (asLabel g) named.now cells.now i end result }
+    ensures { Skipped aim (as_label g) named.now cells.now i end result }
 {
     let mut j = i;
     while j < end {
@@ -237,7 +237,7 @@ fn visit(
     tally: &mut [usize; 6],
 ) -> Step
     requires { JobHeld text.now job × Visitable text.now job at (buffers named.old cells.old store.old report.old bytes.old known.old) (counted tally.old) }
-    ensures { Visit (passBy text.now job) (byNode job.turn) job.on at text.now (buffers named.old cells.old store.old report.old bytes.old known.old) (counted tally.old) (buffers named.new cells.new store.new report.new bytes.new known.new) (afterStep (counted tally.new) result) }
+    ensures { Visit (pass_by text.now job) (by_node job.turn) job.on at text.now (buffers named.old cells.old store.old report.old bytes.old known.old) (counted tally.old) (buffers named.new cells.new store.new report.new bytes.new known.new) (after_step (counted tally.new) result) }
 {
     let on = job.on;
     let turn = job.turn;
@@ -259,7 +259,7 @@ fn visit(
 
 // Where leaf i of the same segment stands.
 fn spot_at(at: Spot, i: usize) -> Spot
-    ensures { result ≡ spotAt at i }
+    ensures { result ≡ spot_at at i }
 {
     let label = at.label;
     Spot {
@@ -283,7 +283,7 @@ fn pass_leaves(
     tally: &mut [usize; 6],
 ) -> Step
     requires { JobHeld text.now job × Passable job at cells.old × Ahead text.now job at.index (buffers named.old cells.old store.old report.old bytes.old known.old) (counted tally.old) }
-    ensures { LeavesPassed (passBy text.now job) (byNode job.turn) job.on at text.now (buffers named.old cells.old store.old report.old bytes.old known.old) (counted tally.old) (buffers named.new cells.new store.new report.new bytes.new known.new) (afterStep (counted tally.new) result) }
+    ensures { LeavesPassed (pass_by text.now job) (by_node job.turn) job.on at text.now (buffers named.old cells.old store.old report.old bytes.old known.old) (counted tally.old) (buffers named.new cells.new store.new report.new bytes.new known.new) (after_step (counted tally.new) result) }
 {
     let aim = job.aim;
     let g = at.label;
@@ -337,7 +337,7 @@ pub fn take_turn(
     tally: &mut [usize; 6],
 ) -> Step
     requires { JobHeld text.now job × AllNamed segs.now job.on.segments × Segmented segs.now job.on.segments job.on.leaves × AllOrdered segs.now cells.old job.on.segments × Ahead text.now job 0 (buffers named.old cells.old store.old report.old bytes.old known.old) (counted tally.old) }
-    ensures { TurnTaken (passBy text.now job) job.on segs.now text.now (buffers named.old cells.old store.old report.old bytes.old known.old) (counted tally.old) (buffers named.new cells.new store.new report.new bytes.new known.new) (afterStep (counted tally.new) result) }
+    ensures { TurnTaken (pass_by text.now job) job.on segs.now text.now (buffers named.old cells.old store.old report.old bytes.old known.old) (counted tally.old) (buffers named.new cells.new store.new report.new bytes.new known.new) (after_step (counted tally.new) result) }
 {
     let aim = job.aim;
     let m = job.on.segments;

@@ -9,115 +9,115 @@ use lib.ListN.{length, take, drop}
 use Rattle.text.specs.Text.{Text}
 use Rattle.text.proofs.Laws.{clash}
 use Rattle.text.proofs.Runs.{part_slice}
-use Rattle.text.proofs.Kept.{same-all}
+use Rattle.text.proofs.Kept.{same_all}
 use Rattle.refusal.specs.declared.Refusal.TheVariants.{MessageTooLong}
 use Rattle.refusal.specs.Limits.{TEXT_MAX}
 use Rattle.message_model.specs.Value.{NULL, is_null}
 use Rattle.run_model.specs.Redact.{Reach, Event, becomes, collapse, size, Row}
-use Rattle.er7_value.proofs.Decoding.{null-length}
+use Rattle.er7_value.proofs.Decoding.{null_length}
 use Rattle.er7_table.specs.Table.{cell}
-use Rattle.er7_render.specs.Stored.{liveSum}
-use Rattle.er7_render.proofs.Sums.{sum_step, sum-parts, sum-each}
+use Rattle.er7_render.specs.Stored.{live_sum}
+use Rattle.er7_render.proofs.Sums.{sum_step, sum_parts, sum_each}
 use Rattle.redact_5_act.specs.Act.{Acted}
 use Rattle.redact_5_act.specs.declared.act.Effect.{Effect as HeldEffect}
 use Rattle.redact_5_act.specs.declared.act.Effect.TheVariants.{Stays, Becomes, TooLong}
 use Rattle.redact_5_act.specs.declared.state.Counters.{Counters}
 use Rattle.redact_5_act.specs.declared.state.Done.{Done}
 use Rattle.redact_5_act.specs.declared.state.Done.TheVariants.{Going, Stopped}
-use Rattle.redact_4_leaf.specs.State.{textIn, Countable, ChangePut, Learning, NodeReady, Change}
-use Rattle.redact_4_leaf.proofs.Acting.{node-live, stayed, entered, overran}
-use Rattle.redact_4_leaf.proofs.Rules.{learnt-going}
-use Rattle.redact_3_node.specs.Node.{nodeEnd, AllLearnable, liveTexts, leafSize, leavesSize, already}
-use Rattle.redact_3_node.proofs.Nodes.{end_low, end-high, size-live, nil-live, leaves-most}
+use Rattle.redact_4_leaf.specs.State.{text_in, Countable, ChangePut, Learning, NodeReady, Change}
+use Rattle.redact_4_leaf.proofs.Acting.{node_live, stayed, entered, overran}
+use Rattle.redact_4_leaf.proofs.Rules.{learnt_going}
+use Rattle.redact_3_node.specs.Node.{node_end, AllLearnable, live_texts, leaf_size, leaves_size, already}
+use Rattle.redact_3_node.proofs.Nodes.{end_low, end_high, size_live, nil_live, leaves_most}
 
 -- ---- whether the node is already one null leaf, and the bytes that go
 
-module _ (cells : List ℕ) (store : Text) (i e : ℕ) {rest : ℕ} (q : rest ≡ leavesSize cells (i + 1) (e - (i + 1))) where
-  pub already-is : {b : Bool} → b ≡ is_null (take (cell cells i 1 + cell cells i 2 - cell cells i 1) (drop (cell cells i 1) store)) → b && eqb rest 0 ≡ already cells store i e
-  unfolding already textIn
-  already-is h =
+module _ (cells : List ℕ) (store : Text) (i e : ℕ) {rest : ℕ} (q : rest ≡ leaves_size cells (i + 1) (e - (i + 1))) where
+  pub already_is : {b : Bool} → b ≡ is_null (take (cell cells i 1 + cell cells i 2 - cell cells i 1) (drop (cell cells i 1) store)) → b && eqb rest 0 ≡ already cells store i e
+  unfolding already text_in
+  already_is h =
       let n : i + 1 ≡ suc i = omega arith in
-      rw (h, q, n, part_slice store (cell cells i 1) (cell cells i 2), nil-live cells store (suc i) (e - suc i))
+      rw (h, q, n, part_slice store (cell cells i 1) (cell cells i 2), nil_live cells store (suc i) (e - suc i))
 
-  pub went-is : {n : ℕ} {c : Counters} → NodeReady cells store n i e c → cell cells i 2 + rest ≡ size (liveTexts cells store i (e - i)) - 1
-  unfolding leavesSize leafSize
-  went-is g =
+  pub went_is : {n : ℕ} {c : Counters} → NodeReady cells store n i e c → cell cells i 2 + rest ≡ size (live_texts cells store i (e - i)) - 1
+  unfolding leaves_size leaf_size
+  went_is g =
       let k : e - i ≡ suc (e - suc i) = omega (arith, g.inside) in
       let n : i + 1 ≡ suc i = omega arith in
-      let l : rest ≡ leavesSize cells (suc i) (e - suc i) = rw n at q in
-      rw (size-live g.good i (e - i) (omega (arith, g.ends, g.inside)), k, g.live) (omega arith)
+      let l : rest ≡ leaves_size cells (suc i) (e - suc i) = rw n at q in
+      rw (size_live g.good i (e - i) (omega (arith, g.ends, g.inside)), k, g.live) (omega arith)
 
 -- ---- the null in the place of its first leaf
 
-null-few : {went : ℕ} {c : Counters} {store store' : Text} {r : HeldEffect} {k : ℕ} → Acted (becomes NULL) went c store store' r → r ≡ Becomes k → k ≤ 2
-null-few a q = let w = (rw q at a).out in let e : NULL ≡ w.text = cc w.is in omega (arith, w.long, null-length, ap length e)
+null_few : {went : ℕ} {c : Counters} {store store' : Text} {r : HeldEffect} {k : ℕ} → Acted (becomes NULL) went c store store' r → r ≡ Becomes k → k ≤ 2
+null_few a q = let w = (rw q at a).out in let e : NULL ≡ w.text = cc w.is in omega (arith, w.long, null_length, ap length e)
 
 module _ {cells : List ℕ} {store : Text} {n i end : ℕ} {c₀ c : Counters} (e : c ≡ c₀) (g : NodeReady cells store n i end c₀) where
-  pub null-room : c.used + 2 ≤ 98304
-  null-room = rw e g.room
+  pub null_room : c.used + 2 ≤ 98304
+  null_room = rw e g.room
 
-  pub null-countable : {went : ℕ} {store' : Text} {r : HeldEffect} → Acted (becomes NULL) went c store store' r → {k : ℕ} → r ≡ Becomes k → Countable k c₀
-  null-countable a q = record { rows = g.rows; report = g.report; size = g.most; used = omega (arith, g.room); text = omega (arith, null-few a q) }
+  pub null_countable : {went : ℕ} {store' : Text} {r : HeldEffect} → Acted (becomes NULL) went c store store' r → {k : ℕ} → r ≡ Becomes k → Countable k c₀
+  null_countable a q = record { rows = g.rows; report = g.report; size = g.most; used = omega (arith, g.room); text = omega (arith, null_few a q) }
 
   module _ (ρ : Row) (went : ℕ) (report : Text) {store' : Text} {r : HeldEffect} (a : Acted (becomes NULL) went c store store' r) where
     nulled : Acted (becomes NULL) went c₀ store store' r
     nulled = rw e at a
 
-    pub null-stays : r ≡ Stays → Change true (becomes NULL) ρ went n i cells store report c₀ cells store' report (Going c₀)
-    null-stays q = record { out = stayed (node-live g) true ρ went (rw q at nulled).out }
+    pub null_stays : r ≡ Stays → Change true (becomes NULL) ρ went n i cells store report c₀ cells store' report (Going c₀)
+    null_stays q = record { out = stayed (node_live g) true ρ went (rw q at nulled).out }
 
-    pub null-becomes : {k : ℕ} → r ≡ Becomes k → {cells' : List ℕ} {report' : Text} {c' : Counters} → ChangePut ρ i went k cells report c₀ cells' report' c'
+    pub null_becomes : {k : ℕ} → r ≡ Becomes k → {cells' : List ℕ} {report' : Text} {c' : Counters} → ChangePut ρ i went k cells report c₀ cells' report' c'
         → Change true (becomes NULL) ρ went n i cells store report c₀ cells' store' report' (Going c')
-    null-becomes q w = record { out = entered (node-live g) true ρ went (rw q at nulled).out w (λ x. clash x) (λ x. null-few nulled q) }
+    null_becomes q w = record { out = entered (node_live g) true ρ went (rw q at nulled).out w (λ x. clash x) (λ x. null_few nulled q) }
 
-    pub null-long : r ≡ TooLong → {cells' : List ℕ} {report' : Text} → Change true (becomes NULL) ρ went n i cells store report c₀ cells' store' report' (Stopped MessageTooLong)
-    null-long q = record { out = overran (becomes NULL) ρ went report (rw q at nulled).out }
+    pub null_long : r ≡ TooLong → {cells' : List ℕ} {report' : Text} → Change true (becomes NULL) ρ went n i cells store report c₀ cells' store' report' (Stopped MessageTooLong)
+    null_long q = record { out = overran (becomes NULL) ρ went report (rw q at nulled).out }
 
 -- ---- the node becomes one null leaf, unless it is that already
 
 module _ {cells : List ℕ} {store : Text} {n i end : ℕ} {c : Counters} (g : NodeReady cells store n i end c) (ρ : Row) (report : Text) where
   pub node_stays : already cells store i end ≡ true
-      → Change true (collapse true (already cells store i end)) ρ (size (liveTexts cells store i (end - i)) - 1) n i cells store report c cells store report (Going c)
-  node_stays e = record { out = stayed (node-live g) true ρ _ (unfold collapse in rw e, same-all) }
+      → Change true (collapse true (already cells store i end)) ρ (size (live_texts cells store i (end - i)) - 1) n i cells store report c cells store report (Going c)
+  node_stays e = record { out = stayed (node_live g) true ρ _ (unfold collapse in rw e, same_all) }
 
-  pub node-becomes : {went : ℕ} {cells' : List ℕ} {store' report' : Text} {r : Done} → already cells store i end ≡ false → went ≡ size (liveTexts cells store i (end - i)) - 1
+  pub node_becomes : {went : ℕ} {cells' : List ℕ} {store' report' : Text} {r : Done} → already cells store i end ≡ false → went ≡ size (live_texts cells store i (end - i)) - 1
       → Change true (becomes NULL) ρ went n i cells store report c cells' store' report' r
-      → Change true (collapse true (already cells store i end)) ρ (size (liveTexts cells store i (end - i)) - 1) n i cells store report c cells' store' report' r
+      → Change true (collapse true (already cells store i end)) ρ (size (live_texts cells store i (end - i)) - 1) n i cells store report c cells' store' report' r
   unfolding collapse
-  node-becomes e q d = rw (e, ← q) d
+  node_becomes e q d = rw (e, ← q) d
 
 -- ---- what the parts of a node ask for
 
-pub ready-node : (r : Reach) {cells : List ℕ} {store : Text} {n i end e : ℕ} {c : Counters} → NodeReady cells store n i end c → e ≡ nodeEnd r cells (suc i) (end - suc i)
+pub ready_node : (r : Reach) {cells : List ℕ} {store : Text} {n i end e : ℕ} {c : Counters} → NodeReady cells store n i end c → e ≡ node_end r cells (suc i) (end - suc i)
     → NodeReady cells store n i e c
-ready-node r {cells} {i = i} {end = end} {e = e} g l =
+ready_node r {cells} {i = i} {end = end} {e = e} g l =
     let h = end_low r cells (suc i) (end - suc i) in
-    let k = end-high r cells (suc i) (end - suc i) in
+    let k = end_high r cells (suc i) (end - suc i) in
     record {
       inside = omega (arith, l, h);
       ends = omega (arith, l, k, g.ends, g.inside);
       good = g.good;
       live = g.live;
-      texts = omega (arith, sum-parts cells i e end (omega (arith, l, h)) (omega (arith, l, k, g.inside)), g.texts);
+      texts = omega (arith, sum_parts cells i e end (omega (arith, l, h)) (omega (arith, l, k, g.inside)), g.texts);
       most = g.most;
       room = g.room;
       rows = g.rows;
       report = g.report;
     }
 
-pub ready-learnable : {cells : List ℕ} {store : Text} {n i end : ℕ} {c : Counters} → NodeReady cells store n i end c → AllLearnable cells i end
-ready-learnable {cells} {i = i} {end = end} g = record {
+pub ready_learnable : {cells : List ℕ} {store : Text} {n i end : ℕ} {c : Counters} → NodeReady cells store n i end c → AllLearnable cells i end
+ready_learnable {cells} {i = i} {end = end} g = record {
   order = omega (arith, g.inside);
   rows = omega (arith, g.ends, g.good.rows);
   inside = λ j h. omega (arith, g.good.ends j (omega (arith, g.ends)), g.room);
-  short = λ j h l. omega (arith, sum-each cells i (end - i) j h (omega arith), g.texts);
+  short = λ j h l. omega (arith, sum_each cells i (end - i) j h (omega arith), g.texts);
 }
 
 -- what was learnt takes none of it
-pub ready-learnt : {cells : List ℕ} {store : Text} {n i end : ℕ} {c c' : Counters} {es : List Event} {sweep : Bool} {text bytes bytes' : Text} {known known' : List ℕ} {r : Done}
+pub ready_learnt : {cells : List ℕ} {store : Text} {n i end : ℕ} {c c' : Counters} {es : List Event} {sweep : Bool} {text bytes bytes' : Text} {known known' : List ℕ} {r : Done}
     → NodeReady cells store n i end c → Learning es sweep text bytes known c bytes' known' r → r ≡ Going c' → NodeReady cells store n i end c'
-ready-learnt g m e =
-    let l = learnt-going m e in
+ready_learnt g m e =
+    let l = learnt_going m e in
     record {
       inside = g.inside;
       ends = g.ends;
@@ -132,14 +132,14 @@ ready-learnt g m e =
 
 -- the leaves behind the first
 module _ {cells : List ℕ} {store : Text} {n i end : ℕ} {c : Counters} (g : NodeReady cells store n i end c) where
-  rest_sum : liveSum cells (i + 1) (end - (i + 1)) ≤ TEXT_MAX
+  rest_sum : live_sum cells (i + 1) (end - (i + 1)) ≤ TEXT_MAX
   rest_sum =
       let m : i + 1 ≡ suc i = omega arith in
       let s = sum_step cells i end g.inside in
       rw m (omega (arith, s, g.texts))
 
-  pub rest-ready : (i + 1 ≤ end) × (end * 8 ≤ length cells) × (liveSum cells (i + 1) (end - (i + 1)) ≤ TEXT_MAX)
-  rest-ready = (omega (arith, g.inside), omega (arith, g.ends, g.good.rows), rest_sum)
+  pub rest_ready : (i + 1 ≤ end) × (end * 8 ≤ length cells) × (live_sum cells (i + 1) (end - (i + 1)) ≤ TEXT_MAX)
+  rest_ready = (omega (arith, g.inside), omega (arith, g.ends, g.good.rows), rest_sum)
 
-  pub rest-fits : leavesSize cells (i + 1) (end - (i + 1)) ≤ TEXT_MAX + length cells
-  rest-fits = omega (arith, rest_sum, leaves-most cells (i + 1) (end - (i + 1)), g.ends, g.good.rows)
+  pub rest_fits : leaves_size cells (i + 1) (end - (i + 1)) ≤ TEXT_MAX + length cells
+  rest_fits = omega (arith, rest_sum, leaves_most cells (i + 1) (end - (i + 1)), g.ends, g.good.rows)

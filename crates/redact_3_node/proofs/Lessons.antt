@@ -11,50 +11,50 @@ use Rattle.text.specs.Text.{Text, lower}
 use Rattle.er7.specs.declared.separators.Separators.{Separators}
 use Rattle.er7_redact.specs.declared.action.Action.{Action as HeldAction}
 use Rattle.er7_redact.specs.declared.action.Action.TheVariants as Held
-use Rattle.er7_redact.specs.Action.{Action, isKeep, asAction, ActionHeld}
+use Rattle.er7_redact.specs.Action.{Action, is_keep, as_action, ActionHeld}
 use Rattle.refusal.specs.declared.Refusal.{Refusal}
-use Rattle.message_model.specs.Value.{isEmptyOrNull, value}
-use Rattle.run_model.specs.Redact.{Event, learning, afterEvents}
+use Rattle.message_model.specs.Value.{is_empty_or_null, value}
+use Rattle.run_model.specs.Redact.{Event, learning, after_events}
 use Rattle.er7_table.specs.Table.{cell}
-use Rattle.redact_5_act.specs.Known.{actionAt, GoodKnown, ActionsHeld}
+use Rattle.redact_5_act.specs.Known.{action_at, GoodKnown, ActionsHeld}
 use Rattle.redact_5_act.specs.declared.state.Counters.{Counters}
 use Rattle.redact_5_act.specs.declared.state.Done.{Done}
 use Rattle.redact_5_act.specs.declared.state.Done.TheVariants.{Going, Stopped}
-use Rattle.redact_4_leaf.specs.State.{textIn, KnownHeld, LearntTo, Learning, Readable}
-use Rattle.redact_4_leaf.proofs.Acting.{live-length}
-use Rattle.redact_4_leaf.proofs.Rules.{learnt-going, learnt-stopped}
-use Rattle.redact_4_leaf.proofs.Walks.{progress-append, stopped-stays}
-use Rattle.redact_3_node.specs.Node.{liveTexts, Learnable, AllLearnable}
-use Rattle.redact_3_node.proofs.Nodes.{by_bool, live-append}
+use Rattle.redact_4_leaf.specs.State.{text_in, KnownHeld, LearntTo, Learning, Readable}
+use Rattle.redact_4_leaf.proofs.Acting.{live_length}
+use Rattle.redact_4_leaf.proofs.Rules.{learnt_going, learnt_stopped}
+use Rattle.redact_4_leaf.proofs.Walks.{progress_append, stopped_stays}
+use Rattle.redact_3_node.specs.Node.{live_texts, Learnable, AllLearnable}
+use Rattle.redact_3_node.proofs.Nodes.{by_bool, live_append}
 
 -- ---- one list of texts behind another
 
-pub learning-append : (s : Separators) (a : Action) (ts us : List Text) → learning s a (ts ++ us) ≡ learning s a ts ++ learning s a us
+pub learning_append : (s : Separators) (a : Action) (ts us : List Text) → learning s a (ts ++ us) ≡ learning s a ts ++ learning s a us
 unfolding learning
-learning-append s a [] us = refl
-learning-append s a (t ∷ ts) us =
-    by_bool (isKeep a || isEmptyOrNull t || ltb (length (lower (value s t))) 3)
-    (λ e. rw e (learning-append s a ts us))
-    (λ e. rw (e, learning-append s a ts us))
+learning_append s a [] us = refl
+learning_append s a (t ∷ ts) us =
+    by_bool (is_keep a || is_empty_or_null t || ltb (length (lower (value s t))) 3)
+    (λ e. rw e (learning_append s a ts us))
+    (λ e. rw (e, learning_append s a ts us))
 
 module _ {es : List Event} {sweep : Bool} {text bytes bytes' : Text} {known known' : List ℕ} {c c' : Counters} (l : LearntTo es sweep text bytes known c bytes' known' c') where
-  learnt-then : {fs : List Event} {bytes'' : Text} {known'' : List ℕ} {c'' : Counters} → LearntTo fs sweep text bytes' known' c' bytes'' known'' c''
+  learnt_then : {fs : List Event} {bytes'' : Text} {known'' : List ℕ} {c'' : Counters} → LearntTo fs sweep text bytes' known' c' bytes'' known'' c''
       → LearntTo (es ++ fs) sweep text bytes known c bytes'' known'' c''
-  learnt-then {fs} m = record {
+  learnt_then {fs} m = record {
     rows = m.rows ∙ l.rows;
     report = m.report ∙ l.report;
     size = m.size ∙ l.size;
     used = m.used ∙ l.used;
     held = m.held;
-    progress = λ report b k. rw (progress-append sweep es fs b) (m.progress report (afterEvents sweep es b) (l.progress report b k));
+    progress = λ report b k. rw (progress_append sweep es fs b) (m.progress report (after_events sweep es b) (l.progress report b k));
   }
 
-  learnt-stop : {fs : List Event} (gs : List Event) {bytes'' : Text} {known'' : List ℕ} {e : Refusal} → Learning fs sweep text bytes' known' c' bytes'' known'' (Stopped e)
+  learnt_stop : {fs : List Event} (gs : List Event) {bytes'' : Text} {known'' : List ℕ} {e : Refusal} → Learning fs sweep text bytes' known' c' bytes'' known'' (Stopped e)
       → Learning (es ++ (fs ++ gs)) sweep text bytes known c bytes'' known'' (Stopped e)
-  learnt-stop {fs} gs {e = e} m = record {
+  learnt_stop {fs} gs {e = e} m = record {
     out = λ report b k.
-        rw (progress-append sweep es (fs ++ gs) b, progress-append sweep fs gs (afterEvents sweep es b), m.out report (afterEvents sweep es b) (l.progress report b k))
-        (stopped-stays sweep gs e);
+        rw (progress_append sweep es (fs ++ gs) b, progress_append sweep fs gs (after_events sweep es b), m.out report (after_events sweep es b) (l.progress report b k))
+        (stopped_stays sweep gs e);
   }
 
 -- ---- a text that holds the replacements
@@ -71,37 +71,37 @@ asks (Held.Last n) = 0
 asks Held.Pseudonym = 0
 asks (Held.Shift n) = 0
 
-abbrev allAsk : List ℕ → ℕ → ℕ
-allAsk known zero = 0
-allAsk known (suc n) = asks (actionAt known n) + allAsk known n
+abbrev all_ask : List ℕ → ℕ → ℕ
+all_ask known zero = 0
+all_ask known (suc n) = asks (action_at known n) + all_ask known n
 
-ask-held : (a : HeldAction) (t : Text) → asks a ≤ length t → ActionHeld t a
-ask-held Held.Keep t h = tt
-ask-held Held.Clear t h = tt
-ask-held Held.Null t h = tt
-ask-held (Held.Replace i n) t h = h
-ask-held (Held.Mask c) t h = tt
-ask-held (Held.First n) t h = tt
-ask-held (Held.Last n) t h = tt
-ask-held Held.Pseudonym t h = tt
-ask-held (Held.Shift n) t h = tt
+ask_held : (a : HeldAction) (t : Text) → asks a ≤ length t → ActionHeld t a
+ask_held Held.Keep t h = tt
+ask_held Held.Clear t h = tt
+ask_held Held.Null t h = tt
+ask_held (Held.Replace i n) t h = h
+ask_held (Held.Mask c) t h = tt
+ask_held (Held.First n) t h = tt
+ask_held (Held.Last n) t h = tt
+ask_held Held.Pseudonym t h = tt
+ask_held (Held.Shift n) t h = tt
 
-ask-row : (known : List ℕ) (n i : ℕ) → i < n → asks (actionAt known i) ≤ allAsk known n
-ask-row known zero i h = absurd (omega arith)
-ask-row known (suc n) i h = by_bool (eqb i n)
+ask_row : (known : List ℕ) (n i : ℕ) → i < n → asks (action_at known i) ≤ all_ask known n
+ask_row known zero i h = absurd (omega arith)
+ask_row known (suc n) i h = by_bool (eqb i n)
     (λ e. rw (eqb-true i n e) (omega arith))
-    (λ e. omega (arith, ask-row known n i (omega (arith, eqb-false i n e))))
+    (λ e. omega (arith, ask_row known n i (omega (arith, eqb-false i n e))))
 
-unfoldable longEnough : HeldAction → List ℕ → ℕ → Text
-longEnough a known n = replicate (asks a + allAsk known n) 0
+unfoldable long_enough : HeldAction → List ℕ → ℕ → Text
+long_enough a known n = replicate (asks a + all_ask known n) 0
 
-long-held : (a : HeldAction) (known : List ℕ) (n : ℕ) → ActionHeld (longEnough a known n) a
-unfolding longEnough
-long-held a known n = ask-held a _ (rw (length-replicate {A = ℕ} (asks a + allAsk known n) 0) (omega arith))
+long_held : (a : HeldAction) (known : List ℕ) (n : ℕ) → ActionHeld (long_enough a known n) a
+unfolding long_enough
+long_held a known n = ask_held a _ (rw (length-replicate {A = ℕ} (asks a + all_ask known n) 0) (omega arith))
 
-long-all : (a : HeldAction) (known : List ℕ) (n : ℕ) → ActionsHeld (longEnough a known n) known n
-unfolding longEnough
-long-all a known n = record { held = λ i h. ask-held (actionAt known i) _ (rw (length-replicate {A = ℕ} (asks a + allAsk known n) 0) (omega (arith, ask-row known n i h))) }
+long_all : (a : HeldAction) (known : List ℕ) (n : ℕ) → ActionsHeld (long_enough a known n) known n
+unfolding long_enough
+long_all a known n = record { held = λ i h. ask_held (action_at known i) _ (rw (length-replicate {A = ℕ} (asks a + all_ask known n) 0) (omega (arith, ask_row known n i h))) }
 
 -- ---- leaf by leaf
 
@@ -111,43 +111,43 @@ pub record LearntBefore (a : HeldAction) (s : Separators) (sweep : Bool) (first 
   pub low : first ≤ i
   pub high : i ≤ end
   pub learnt : (text : Text) → ActionHeld text a → KnownHeld text bytes₀ known₀ c₀
-      → LearntTo (learning s (asAction text a) (liveTexts cells store first (i - first))) sweep text bytes₀ known₀ c₀ bytes known c
+      → LearntTo (learning s (as_action text a) (live_texts cells store first (i - first))) sweep text bytes₀ known₀ c₀ bytes known c
 
-learnt-none : (s : Separators) (a : Action) (sweep : Bool) (cells : List ℕ) (store : Text) (i : ℕ) {text bytes : Text} {known : List ℕ} {c : Counters}
-    → KnownHeld text bytes known c → LearntTo (learning s a (liveTexts cells store i 0)) sweep text bytes known c bytes known c
-unfolding liveTexts learning afterEvents
-learnt-none s a sweep cells store i h = record { rows = refl; report = refl; size = refl; used = refl; held = h; progress = λ report b k. k }
+learnt_none : (s : Separators) (a : Action) (sweep : Bool) (cells : List ℕ) (store : Text) (i : ℕ) {text bytes : Text} {known : List ℕ} {c : Counters}
+    → KnownHeld text bytes known c → LearntTo (learning s a (live_texts cells store i 0)) sweep text bytes known c bytes known c
+unfolding live_texts learning after_events
+learnt_none s a sweep cells store i h = record { rows = refl; report = refl; size = refl; used = refl; held = h; progress = λ report b k. k }
 
-pub before-start : {a : HeldAction} {s : Separators} {sweep : Bool} {first end : ℕ} {cells : List ℕ} {store bytes : Text} {known : List ℕ} {c : Counters}
+pub before_start : {a : HeldAction} {s : Separators} {sweep : Bool} {first end : ℕ} {cells : List ℕ} {store bytes : Text} {known : List ℕ} {c : Counters}
     → first ≤ end → LearntBefore a s sweep first end cells store bytes known c bytes known c first
-before-start {a} {s} {sweep} {first} {cells = cells} {store = store} h = record {
+before_start {a} {s} {sweep} {first} {cells = cells} {store = store} h = record {
   low = omega arith;
   high = h;
-  learnt = λ text q k. let z : first - first ≡ 0 = omega arith in rw z (learnt-none s (asAction text a) sweep cells store first k);
+  learnt = λ text q k. let z : first - first ≡ 0 = omega arith in rw z (learnt_none s (as_action text a) sweep cells store first k);
 }
 
 module _ {a : HeldAction} {s : Separators} {sweep : Bool} {first end : ℕ} {cells : List ℕ} {store bytes₀ : Text} {known₀ : List ℕ} {c₀ : Counters}
     {bytes : Text} {known : List ℕ} {c : Counters} {i : ℕ} (w : LearntBefore a s sweep first end cells store bytes₀ known₀ c₀ bytes known c i) where
-  pub before-good : GoodKnown bytes₀ known₀ c₀.known c₀.known_used → GoodKnown bytes known c.known c.known_used
-  before-good g = (w.learnt (longEnough a known₀ c₀.known) (long-held a known₀ c₀.known) (record { good = g; held = long-all a known₀ c₀.known })).held.good
+  pub before_good : GoodKnown bytes₀ known₀ c₀.known c₀.known_used → GoodKnown bytes known c.known c.known_used
+  before_good g = (w.learnt (long_enough a known₀ c₀.known) (long_held a known₀ c₀.known) (record { good = g; held = long_all a known₀ c₀.known })).held.good
 
   -- the texts, with those of leaf i and those behind it
-  texts-more : liveTexts cells store first (suc i - first) ≡ liveTexts cells store first (i - first) ++ liveTexts cells store i 1
-  texts-more =
+  texts_more : live_texts cells store first (suc i - first) ≡ live_texts cells store first (i - first) ++ live_texts cells store i 1
+  texts_more =
       let n : suc i - first ≡ i - first + 1 = omega (arith, w.low) in
       let m : first + (i - first) ≡ i = omega (arith, w.low) in
-      rw n (live-append cells store first (i - first) 1 ∙ rw m)
+      rw n (live_append cells store first (i - first) 1 ∙ rw m)
 
-  texts-rest : i < end → liveTexts cells store first (end - first)
-      ≡ liveTexts cells store first (i - first) ++ (liveTexts cells store i 1 ++ liveTexts cells store (i + 1) (end - suc i))
-  texts-rest h =
+  texts_rest : i < end → live_texts cells store first (end - first)
+      ≡ live_texts cells store first (i - first) ++ (live_texts cells store i 1 ++ live_texts cells store (i + 1) (end - suc i))
+  texts_rest h =
       let n : end - first ≡ i - first + (1 + (end - suc i)) = omega (arith, w.low) in
       let m : first + (i - first) ≡ i = omega (arith, w.low) in
-      rw n (live-append cells store first (i - first) (1 + (end - suc i)) ∙ rw (m, live-append cells store i 1 (end - suc i)))
+      rw n (live_append cells store first (i - first) (1 + (end - suc i)) ∙ rw (m, live_append cells store i 1 (end - suc i)))
 
   -- leaf i is learnt
   pub before_more : {bytes' : Text} {known' : List ℕ} {c' : Counters} {r : Done} → i < end
-      → ((text : Text) → ActionHeld text a → KnownHeld text bytes known c → Learning (learning s (asAction text a) (liveTexts cells store i 1)) sweep text bytes known c bytes' known' r)
+      → ((text : Text) → ActionHeld text a → KnownHeld text bytes known c → Learning (learning s (as_action text a) (live_texts cells store i 1)) sweep text bytes known c bytes' known' r)
       → r ≡ Going c' → LearntBefore a s sweep first end cells store bytes₀ known₀ c₀ bytes' known' c' (i + 1)
   before_more {bytes'} {known'} {c'} h l e = record {
     low = omega (arith, w.low);
@@ -155,44 +155,44 @@ module _ {a : HeldAction} {s : Separators} {sweep : Bool} {first end : ℕ} {cel
     learnt = λ text q k.
         let n : i + 1 ≡ suc i = omega arith in
         let x = w.learnt text q k in
-        rw (n, texts-more, learning-append s (asAction text a) (liveTexts cells store first (i - first)) (liveTexts cells store i 1)) (learnt-then x (learnt-going (l text q x.held) e));
+        rw (n, texts_more, learning_append s (as_action text a) (live_texts cells store first (i - first)) (live_texts cells store i 1)) (learnt_then x (learnt_going (l text q x.held) e));
   }
 
   -- or the run is refused there
-  pub before-stop : {bytes' : Text} {known' : List ℕ} {r : Done} {f : Refusal} → i < end
-      → ((text : Text) → ActionHeld text a → KnownHeld text bytes known c → Learning (learning s (asAction text a) (liveTexts cells store i 1)) sweep text bytes known c bytes' known' r)
+  pub before_stop : {bytes' : Text} {known' : List ℕ} {r : Done} {f : Refusal} → i < end
+      → ((text : Text) → ActionHeld text a → KnownHeld text bytes known c → Learning (learning s (as_action text a) (live_texts cells store i 1)) sweep text bytes known c bytes' known' r)
       → r ≡ Stopped f → (text : Text) → ActionHeld text a → KnownHeld text bytes₀ known₀ c₀
-      → Learning (learning s (asAction text a) (liveTexts cells store first (end - first))) sweep text bytes₀ known₀ c₀ bytes' known' (Stopped f)
-  before-stop {bytes'} {known'} {f = f} h l e text q k =
+      → Learning (learning s (as_action text a) (live_texts cells store first (end - first))) sweep text bytes₀ known₀ c₀ bytes' known' (Stopped f)
+  before_stop {bytes'} {known'} {f = f} h l e text q k =
       let x = w.learnt text q k in
-      let t : learning s (asAction text a) (liveTexts cells store first (end - first))
-      ≡ learning s (asAction text a) (liveTexts cells store first (i - first))
-      ++ (learning s (asAction text a) (liveTexts cells store i 1) ++ learning s (asAction text a) (liveTexts cells store (i + 1) (end - suc i))) =
-      rw (texts-rest h, learning-append s (asAction text a) (liveTexts cells store first (i - first)) (liveTexts cells store i 1 ++ liveTexts cells store (i + 1) (end - suc i)), learning-append s (asAction text a) (liveTexts cells store i 1) (liveTexts cells store (i + 1) (end - suc i))) in
-      rw t (learnt-stop x (learning s (asAction text a) (liveTexts cells store (i + 1) (end - suc i))) (learnt-stopped (l text q x.held) e))
+      let t : learning s (as_action text a) (live_texts cells store first (end - first))
+      ≡ learning s (as_action text a) (live_texts cells store first (i - first))
+      ++ (learning s (as_action text a) (live_texts cells store i 1) ++ learning s (as_action text a) (live_texts cells store (i + 1) (end - suc i))) =
+      rw (texts_rest h, learning_append s (as_action text a) (live_texts cells store first (i - first)) (live_texts cells store i 1 ++ live_texts cells store (i + 1) (end - suc i)), learning_append s (as_action text a) (live_texts cells store i 1) (live_texts cells store (i + 1) (end - suc i))) in
+      rw t (learnt_stop x (learning s (as_action text a) (live_texts cells store (i + 1) (end - suc i))) (learnt_stopped (l text q x.held) e))
 
   -- all are learnt
-  pub before-end : end ≤ i → (text : Text) → ActionHeld text a → KnownHeld text bytes₀ known₀ c₀
-      → Learning (learning s (asAction text a) (liveTexts cells store first (end - first))) sweep text bytes₀ known₀ c₀ bytes known (Going c)
-  before-end h text q k = let e : end ≡ i = omega (arith, w.high) in record { out = rw e (w.learnt text q k) }
+  pub before_end : end ≤ i → (text : Text) → ActionHeld text a → KnownHeld text bytes₀ known₀ c₀
+      → Learning (learning s (as_action text a) (live_texts cells store first (end - first))) sweep text bytes₀ known₀ c₀ bytes known (Going c)
+  before_end h text q k = let e : end ≡ i = omega (arith, w.high) in record { out = rw e (w.learnt text q k) }
 
 -- ---- one leaf
 
 module _ (cells : List ℕ) (store : Text) (i : ℕ) where
-  pub one-gone : (s : Separators) (a : Action) (sweep : Bool) {text bytes : Text} {known : List ℕ} {c : Counters} → (cell cells i 3 ≡ 0 → ⊥) → KnownHeld text bytes known c
-      → Learning (learning s a (liveTexts cells store i 1)) sweep text bytes known c bytes known (Going c)
-  one-gone s a sweep e h = record { out = rw (none-one e) (learnt-none s a sweep cells store (suc i) h) }
+  pub one_gone : (s : Separators) (a : Action) (sweep : Bool) {text bytes : Text} {known : List ℕ} {c : Counters} → (cell cells i 3 ≡ 0 → ⊥) → KnownHeld text bytes known c
+      → Learning (learning s a (live_texts cells store i 1)) sweep text bytes known c bytes known (Going c)
+  one_gone s a sweep e h = record { out = rw (none_one e) (learnt_none s a sweep cells store (suc i) h) }
     where
-      none-one : (cell cells i 3 ≡ 0 → ⊥) → liveTexts cells store i 1 ≡ liveTexts cells store (suc i) 0
-      none-one e = unfold liveTexts in rw (ne_eqb (cell cells i 3) 0 e)
+      none_one : (cell cells i 3 ≡ 0 → ⊥) → live_texts cells store i 1 ≡ live_texts cells store (suc i) 0
+      none_one e = unfold live_texts in rw (ne_eqb (cell cells i 3) 0 e)
 
-  pub one-live : cell cells i 3 ≡ 0 → textIn cells store i ∷ [] ≡ liveTexts cells store i 1
-  unfolding liveTexts
-  one-live e = sym (rw e)
+  pub one_live : cell cells i 3 ≡ 0 → text_in cells store i ∷ [] ≡ live_texts cells store i 1
+  unfolding live_texts
+  one_live e = sym (rw e)
 
-pub one-readable : {cells bytes : Text} {known : List ℕ} {i : ℕ} {c : Counters} → Learnable cells bytes known i c → cell cells i 3 ≡ 0 → Readable cells bytes known i c
-one-readable {cells} {i = i} l e = record { row = l.row; inside = l.inside; short = rw (live-length cells i e) at l.short; good = l.good }
+pub one_readable : {cells bytes : Text} {known : List ℕ} {i : ℕ} {c : Counters} → Learnable cells bytes known i c → cell cells i 3 ≡ 0 → Readable cells bytes known i c
+one_readable {cells} {i = i} l e = record { row = l.row; inside = l.inside; short = rw (live_length cells i e) at l.short; good = l.good }
 
-pub all-learnable : {cells : List ℕ} {bytes : Text} {known : List ℕ} {first end i : ℕ} {c : Counters} → AllLearnable cells first end → first ≤ i → i < end
+pub all_learnable : {cells : List ℕ} {bytes : Text} {known : List ℕ} {first end i : ℕ} {c : Counters} → AllLearnable cells first end → first ≤ i → i < end
     → GoodKnown bytes known c.known c.known_used → Learnable cells bytes known i c
-all-learnable l h k g = record { row = omega (arith, l.rows); inside = l.inside _ k; short = l.short _ h k; good = g }
+all_learnable l h k g = record { row = omega (arith, l.rows); inside = l.inside _ k; short = l.short _ h k; good = g }

@@ -1,18 +1,18 @@
 // The collapse of a node: its leaves are learnt, its first leaf becomes the null, and each other vanishes when the pass comes to it.
 ghost use Rattle.std.specs.Prelude.{◌≡◌, Bool, true, List, suc, ◌+◌, ◌-◌, ◌*◌, ◌≤◌, ◌<◌, length};
 ghost use Rattle.text.specs.Text.{Text};
-ghost use Rattle.er7_redact.specs.Action.{asAction, ActionHeld};
-ghost use Rattle.er7_redact.specs.Policy.{asRule};
+ghost use Rattle.er7_redact.specs.Action.{as_action, ActionHeld};
+ghost use Rattle.er7_redact.specs.Policy.{as_rule};
 ghost use Rattle.message_model.specs.Value.{NULL};
-ghost use Rattle.run_model.specs.Redact.{becomes, collapse, covers, isNode, learning, row, size, reach};
-ghost use Rattle.er7_table.specs.Table.{placeAt, asLabel};
-ghost use Rattle.er7_render.specs.Stored.{liveLen, liveSum};
-ghost use Rattle.redact_6_row.specs.Reach.{asReach, startsAt};
+ghost use Rattle.run_model.specs.Redact.{becomes, collapse, covers, is_node, learning, row, size, reach};
+ghost use Rattle.er7_table.specs.Table.{place_at, as_label};
+ghost use Rattle.er7_render.specs.Stored.{live_len, live_sum};
+ghost use Rattle.redact_6_row.specs.Reach.{as_reach, starts_at};
 ghost use Rattle.redact_5_act.specs.Known.{GoodKnown};
-ghost use Rattle.redact_5_act.specs.State.{counted, afterStep};
+ghost use Rattle.redact_5_act.specs.State.{counted, after_step};
 ghost use Rattle.redact_4_leaf.specs.State.{buffers, KnownHeld, Learning, NodeReady, Change};
-ghost use Rattle.redact_4_leaf.specs.Visit.{rulePass, Visit};
-ghost use Rattle.redact_3_node.specs.Node.{nodeEnd, liveTexts, leafSize, leavesSize, Learnable, AllLearnable, already};
+ghost use Rattle.redact_4_leaf.specs.Visit.{rule_pass, Visit};
+ghost use Rattle.redact_3_node.specs.Node.{node_end, live_texts, leaf_size, leaves_size, Learnable, AllLearnable, already};
 ghost use Rattle.redact_3_node.specs.Node as Node;
 ghost use Rattle.refusal.specs.Limits.{INPUT_MAX, LEAVES_MAX, TEXT_MAX};
 
@@ -32,7 +32,7 @@ use refusal::Refusal;
 // Whether leaf i has not vanished and begins a node.
 fn opens(reach: Reach, i: usize, cells: &[usize]) -> bool
     requires { i * 8 + 8 ≤ length cells.now }
-    ensures { result ≡ Node.opens (asReach reach) cells.now i }
+    ensures { result ≡ Node.opens (as_reach reach) cells.now i }
 {
     let at = i * 8;
     let gone = cells[at + 3];
@@ -43,7 +43,7 @@ fn opens(reach: Reach, i: usize, cells: &[usize]) -> bool
 // The index behind the last leaf of the node whose first is leaf i: the next leaf that has not vanished and begins a node, or end.
 fn node_end(reach: Reach, i: usize, end: usize, cells: &[usize]) -> usize
     requires { (i < end) × (end * 8 ≤ length cells.now) }
-    ensures { result ≡ nodeEnd (asReach reach) cells.now (suc i) (end - suc i) }
+    ensures { result ≡ node_end (as_reach reach) cells.now (suc i) (end - suc i) }
 {
     let mut j = i + 1;
     while j < end {
@@ -57,8 +57,8 @@ fn node_end(reach: Reach, i: usize, end: usize, cells: &[usize]) -> usize
 
 // The bytes of leaf i with its delimiter, 0 if it has vanished.
 fn leaf_size(i: usize, cells: &[usize]) -> usize
-    requires { (i * 8 + 8 ≤ length cells.now) × (liveLen cells.now i ≤ TEXT_MAX) }
-    ensures { result ≡ leafSize cells.now i }
+    requires { (i * 8 + 8 ≤ length cells.now) × (live_len cells.now i ≤ TEXT_MAX) }
+    ensures { result ≡ leaf_size cells.now i }
 {
     let at = i * 8;
     if cells[at + 3] != 0 {
@@ -69,8 +69,8 @@ fn leaf_size(i: usize, cells: &[usize]) -> usize
 
 // The bytes of the leaves from leaf first to before leaf end that have not vanished, each with its delimiter.
 fn leaves_size(first: usize, end: usize, cells: &[usize]) -> usize
-    requires { (first ≤ end) × (end * 8 ≤ length cells.now) × (liveSum cells.now first (end - first) ≤ TEXT_MAX) }
-    ensures { result ≡ leavesSize cells.now first (end - first) }
+    requires { (first ≤ end) × (end * 8 ≤ length cells.now) × (live_sum cells.now first (end - first) ≤ TEXT_MAX) }
+    ensures { result ≡ leaves_size cells.now first (end - first) }
 {
     let mut sum = 0;
     let mut i = first;
@@ -93,7 +93,7 @@ fn learn_live(
     tally: &mut [usize; 6],
 ) -> Step
     requires { Learnable cells.now bytes.old known.old i (counted tally.old) }
-    ensures { (text : Text) → ActionHeld text a → KnownHeld text bytes.old known.old (counted tally.old) → Learning (learning on.separators (asAction text a) (liveTexts cells.now store.now i 1)) on.sweep text bytes.old known.old (counted tally.old) bytes.new known.new (afterStep (counted tally.new) result) }
+    ensures { (text : Text) → ActionHeld text a → KnownHeld text bytes.old known.old (counted tally.old) → Learning (learning on.separators (as_action text a) (live_texts cells.now store.now i 1)) on.sweep text bytes.old known.old (counted tally.old) bytes.new known.new (after_step (counted tally.new) result) }
 {
     let row = i * 8;
     if cells[row + 3] != 0 {
@@ -115,7 +115,7 @@ fn learn_all(
     tally: &mut [usize; 6],
 ) -> Step
     requires { AllLearnable cells.now first end × GoodKnown bytes.old known.old (counted tally.old).known (counted tally.old).known_used }
-    ensures { (text : Text) → ActionHeld text a → KnownHeld text bytes.old known.old (counted tally.old) → Learning (learning on.separators (asAction text a) (liveTexts cells.now store.now first (end - first))) on.sweep text bytes.old known.old (counted tally.old) bytes.new known.new (afterStep (counted tally.new) result) }
+    ensures { (text : Text) → ActionHeld text a → KnownHeld text bytes.old known.old (counted tally.old) → Learning (learning on.separators (as_action text a) (live_texts cells.now store.now first (end - first))) on.sweep text bytes.old known.old (counted tally.old) bytes.new known.new (after_step (counted tally.new) result) }
 {
     let mut i = first;
     while i < end {
@@ -143,7 +143,7 @@ fn put_null_change(
     tally: &mut [usize; 6],
 ) -> Step
     requires { ActionHeld text.now a × NodeReady cells.old store.old n at.index at.end (counted tally.old) × (length text.now ≤ INPUT_MAX) }
-    ensures { Change true (becomes NULL) (row (asLabel at.label) (placeAt cells.old at.index) (asAction text.now a)) went n at.index cells.old store.old report.old (counted tally.old) cells.new store.new report.new (afterStep (counted tally.new) result) }
+    ensures { Change true (becomes NULL) (row (as_label at.label) (place_at cells.old at.index) (as_action text.now a)) went n at.index cells.old store.old report.old (counted tally.old) cells.new store.new report.new (after_step (counted tally.new) result) }
 {
     match put_null(store, went, read_tally(tally)) {
         Effect::Stays => Step::Made,
@@ -167,7 +167,7 @@ fn null_node(
     tally: &mut [usize; 6],
 ) -> Step
     requires { ActionHeld text.now a × NodeReady cells.old store.old n at.index at.end (counted tally.old) × (length text.now ≤ INPUT_MAX) }
-    ensures { Change true (collapse true (already cells.old store.old at.index at.end)) (row (asLabel at.label) (placeAt cells.old at.index) (asAction text.now a)) (size (liveTexts cells.old store.old at.index (at.end - at.index)) - 1) n at.index cells.old store.old report.old (counted tally.old) cells.new store.new report.new (afterStep (counted tally.new) result) }
+    ensures { Change true (collapse true (already cells.old store.old at.index at.end)) (row (as_label at.label) (place_at cells.old at.index) (as_action text.now a)) (size (live_texts cells.old store.old at.index (at.end - at.index)) - 1) n at.index cells.old store.old report.old (counted tally.old) cells.new store.new report.new (after_step (counted tally.new) result) }
 {
     let i = at.index;
     let row = i * 8;
@@ -195,8 +195,8 @@ fn collapse_node(
     known: &mut [usize; KNOWN_CELLS],
     tally: &mut [usize; 6],
 ) -> Step
-    requires { ActionHeld text.now rule.action × (isNode (reach (asRule text.now rule)) ≡ true) × (covers (asRule text.now rule) (asLabel at.label) (placeAt cells.old at.index) ≡ true) × (startsAt (reach (asRule text.now rule)) (placeAt cells.old at.index) ≡ true) × NodeReady cells.old store.old on.leaves at.index at.end (counted tally.old) × KnownHeld text.now bytes.old known.old (counted tally.old) × (length text.now ≤ INPUT_MAX) × (on.leaves ≤ LEAVES_MAX) }
-    ensures { (named : List Bool) → Visit (λ ks. rulePass on.key on.separators (asRule text.now rule)) true on at text.now (buffers named cells.old store.old report.old bytes.old known.old) (counted tally.old) (buffers named cells.new store.new report.new bytes.new known.new) (afterStep (counted tally.new) result) }
+    requires { ActionHeld text.now rule.action × (is_node (reach (as_rule text.now rule)) ≡ true) × (covers (as_rule text.now rule) (as_label at.label) (place_at cells.old at.index) ≡ true) × (starts_at (reach (as_rule text.now rule)) (place_at cells.old at.index) ≡ true) × NodeReady cells.old store.old on.leaves at.index at.end (counted tally.old) × KnownHeld text.now bytes.old known.old (counted tally.old) × (length text.now ≤ INPUT_MAX) × (on.leaves ≤ LEAVES_MAX) }
+    ensures { (named : List Bool) → Visit (λ ks. rule_pass on.key on.separators (as_rule text.now rule)) true on at text.now (buffers named cells.old store.old report.old bytes.old known.old) (counted tally.old) (buffers named cells.new store.new report.new bytes.new known.new) (after_step (counted tally.new) result) }
 {
     let a = rule.action;
     let i = at.index;
@@ -228,8 +228,8 @@ pub fn collapse_leaf(
     known: &mut [usize; KNOWN_CELLS],
     tally: &mut [usize; 6],
 ) -> Step
-    requires { ActionHeld text.now rule.action × (isNode (reach (asRule text.now rule)) ≡ true) × (covers (asRule text.now rule) (asLabel at.label) (placeAt cells.old at.index) ≡ true) × NodeReady cells.old store.old on.leaves at.index at.end (counted tally.old) × KnownHeld text.now bytes.old known.old (counted tally.old) × (length text.now ≤ INPUT_MAX) × (on.leaves ≤ LEAVES_MAX) }
-    ensures { (named : List Bool) → Visit (λ ks. rulePass on.key on.separators (asRule text.now rule)) true on at text.now (buffers named cells.old store.old report.old bytes.old known.old) (counted tally.old) (buffers named cells.new store.new report.new bytes.new known.new) (afterStep (counted tally.new) result) }
+    requires { ActionHeld text.now rule.action × (is_node (reach (as_rule text.now rule)) ≡ true) × (covers (as_rule text.now rule) (as_label at.label) (place_at cells.old at.index) ≡ true) × NodeReady cells.old store.old on.leaves at.index at.end (counted tally.old) × KnownHeld text.now bytes.old known.old (counted tally.old) × (length text.now ≤ INPUT_MAX) × (on.leaves ≤ LEAVES_MAX) }
+    ensures { (named : List Bool) → Visit (λ ks. rule_pass on.key on.separators (as_rule text.now rule)) true on at text.now (buffers named cells.old store.old report.old bytes.old known.old) (counted tally.old) (buffers named cells.new store.new report.new bytes.new known.new) (after_step (counted tally.new) result) }
 {
     let i = at.index;
     if !starts(reach_of(rule), place_at(cells, i)) {

@@ -10,21 +10,21 @@ use Rattle.text.proofs.Laws.{by_cond}
 use Rattle.text.proofs.Runs.{part_slice}
 use Rattle.er7.specs.declared.separators.Separators.{Separators}
 use Rattle.er7_redact.specs.declared.action.Action.{Action as HeldAction}
-use Rattle.er7_redact.specs.Action.{Action, isKeep, asAction, ActionHeld}
+use Rattle.er7_redact.specs.Action.{Action, is_keep, as_action, ActionHeld}
 use Rattle.refusal.specs.declared.Refusal.TheVariants.{TooMuchLearnt}
-use Rattle.message_model.specs.Value.{isEmptyOrNull, value}
-use Rattle.run_model.specs.Redact.{Event, learning, Row, Progress, running, stopped, afterEvent, afterEvents}
-use Rattle.redact_5_act.specs.Known.{knownFrom, learnLeaf, Learns, progressOf}
+use Rattle.message_model.specs.Value.{is_empty_or_null, value}
+use Rattle.run_model.specs.Redact.{Event, learning, Row, Progress, running, stopped, after_event, after_events}
+use Rattle.redact_5_act.specs.Known.{known_from, learn_leaf, Learns, progress_of}
 use Rattle.redact_5_act.specs.declared.known.Learnt.{Learnt}
 use Rattle.redact_5_act.specs.declared.known.Learnt.TheVariants.{Kept, Full}
 use Rattle.redact_5_act.specs.declared.state.Counters.{Counters}
 use Rattle.redact_5_act.specs.declared.state.Done.TheVariants.{Going, Stopped}
-use Rattle.redact_4_leaf.specs.State.{knownNow, KnownHeld, LearntTo, Learning, Readable}
+use Rattle.redact_4_leaf.specs.State.{known_now, KnownHeld, LearntTo, Learning, Readable}
 
 -- events that leave the progress teach nothing
-pub learnt-none : (es : List Event) (sweep : Bool) {text bytes : Text} {known : List ℕ} {c : Counters} → ((b : Progress) → afterEvents sweep es b ≡ b)
+pub learnt_none : (es : List Event) (sweep : Bool) {text bytes : Text} {known : List ℕ} {c : Counters} → ((b : Progress) → after_events sweep es b ≡ b)
     → KnownHeld text bytes known c → LearntTo es sweep text bytes known c bytes known c
-learnt-none es sweep e h = record {
+learnt_none es sweep e h = record {
   rows = refl;
   report = refl;
   size = refl;
@@ -34,40 +34,40 @@ learnt-none es sweep e h = record {
 }
 
 -- under keep nothing is learnt
-pub learn-keep : (s : Separators) (a : Action) (t : Text) (sweep : Bool) → isKeep a ≡ true → (b : Progress) → afterEvents sweep (learning s a (t ∷ [])) b ≡ b
-unfolding learning afterEvents
-learn-keep s a t sweep e b = rw e
+pub learn_keep : (s : Separators) (a : Action) (t : Text) (sweep : Bool) → is_keep a ≡ true → (b : Progress) → after_events sweep (learning s a (t ∷ [])) b ≡ b
+unfolding learning after_events
+learn_keep s a t sweep e b = rw e
 
 -- nor without a sweep
-pub learn-off : (s : Separators) (a : Action) (ts : List Text) (b : Progress) → afterEvents false (learning s a ts) b ≡ b
-unfolding learning afterEvents afterEvent
-learn-off s a [] b = refl
-learn-off s a (t ∷ ts) (stopped e) =
-    by_cond (λ es. afterEvents false es (stopped e) ≡ stopped e) (isKeep a || isEmptyOrNull t || ltb (length (lower (value s t))) 3) _ _
-    (λ _. learn-off s a ts (stopped e)) (λ _. learn-off s a ts (stopped e))
-learn-off s a (t ∷ ts) (running ks ρs z) =
-    by_cond (λ es. afterEvents false es (running ks ρs z) ≡ running ks ρs z) (isKeep a || isEmptyOrNull t || ltb (length (lower (value s t))) 3) _ _
-    (λ _. learn-off s a ts (running ks ρs z)) (λ _. learn-off s a ts (running ks ρs z))
+pub learn_off : (s : Separators) (a : Action) (ts : List Text) (b : Progress) → after_events false (learning s a ts) b ≡ b
+unfolding learning after_events after_event
+learn_off s a [] b = refl
+learn_off s a (t ∷ ts) (stopped e) =
+    by_cond (λ es. after_events false es (stopped e) ≡ stopped e) (is_keep a || is_empty_or_null t || ltb (length (lower (value s t))) 3) _ _
+    (λ _. learn_off s a ts (stopped e)) (λ _. learn_off s a ts (stopped e))
+learn_off s a (t ∷ ts) (running ks ρs z) =
+    by_cond (λ es. after_events false es (running ks ρs z) ≡ running ks ρs z) (is_keep a || is_empty_or_null t || ltb (length (lower (value s t))) 3) _ _
+    (λ _. learn_off s a ts (running ks ρs z)) (λ _. learn_off s a ts (running ks ρs z))
 
-pub learning-off : (s : Separators) (a : Action) (ts : List Text) (sweep : Bool) {text bytes : Text} {known : List ℕ} {c : Counters} → sweep ≡ false
+pub learning_off : (s : Separators) (a : Action) (ts : List Text) (sweep : Bool) {text bytes : Text} {known : List ℕ} {c : Counters} → sweep ≡ false
     → KnownHeld text bytes known c → Learning (learning s a ts) sweep text bytes known c bytes known (Going c)
-learning-off s a ts sweep e h = record { out = learnt-none (learning s a ts) sweep (λ b. rw e (learn-off s a ts b)) h }
+learning_off s a ts sweep e h = record { out = learnt_none (learning s a ts) sweep (λ b. rw e (learn_off s a ts b)) h }
 
-pub readable-by : {cells : List ℕ} {bytes : Text} {known : List ℕ} {i : ℕ} {c c₀ : Counters} → c ≡ c₀ → Readable cells bytes known i c₀ → Readable cells bytes known i c
-readable-by e g = rw e g
+pub readable_by : {cells : List ℕ} {bytes : Text} {known : List ℕ} {i : ℕ} {c c₀ : Counters} → c ≡ c₀ → Readable cells bytes known i c₀ → Readable cells bytes known i c
+readable_by e g = rw e g
 
 -- a leaf's text, lent as a part of the store
 module _ (s : Separators) (store : Text) (start len : ℕ) {a : HeldAction} {bytes bytes' : Text} {known known' : List ℕ} (c : Counters) {r : Learnt}
-    (l : Learns (learnLeaf s (take (start + len - start) (drop start store)) a) a bytes known c.known c.known_used bytes' known' r) (sweep : Bool) (on : sweep ≡ true) (text : Text) where
-  recorded : (k : List Row) (z : ℕ) → afterEvents sweep (learning s (asAction text a) (part store start len ∷ [])) (running (knownFrom text bytes known 0 c.known) k z) ≡ progressOf text bytes' known' k z r
-  unfolding learnLeaf
+    (l : Learns (learn_leaf s (take (start + len - start) (drop start store)) a) a bytes known c.known c.known_used bytes' known' r) (sweep : Bool) (on : sweep ≡ true) (text : Text) where
+  recorded : (k : List Row) (z : ℕ) → after_events sweep (learning s (as_action text a) (part store start len ∷ [])) (running (known_from text bytes known 0 c.known) k z) ≡ progress_of text bytes' known' k z r
+  unfolding learn_leaf
   recorded k z = rw (on, ← part_slice store start len) (l.progress text k z)
 
-  kept-to : {n used : ℕ} → r ≡ Kept n used → ActionHeld text a → KnownHeld text bytes known c
-      → Learning (learning s (asAction text a) (part store start len ∷ [])) sweep text bytes known c bytes' known'
+  kept_to : {n used : ℕ} → r ≡ Kept n used → ActionHeld text a → KnownHeld text bytes known c
+      → Learning (learning s (as_action text a) (part store start len ∷ [])) sweep text bytes known c bytes' known'
       (Going (record { rows = c.rows; report_len = c.report_len; size = c.size; used = c.used; known = n; known_used = used }))
-  unfolding knownNow progressOf
-  kept-to e q h = record {
+  unfolding known_now progress_of
+  kept_to e q h = record {
     out = record {
       rows = refl;
       report = refl;
@@ -84,11 +84,11 @@ module _ (s : Separators) (store : Text) (start len : ℕ) {a : HeldAction} {byt
   }
 
   -- by the counters that were read, and those that were written
-  pub learning-kept : {c₀ c₁ : Counters} → c ≡ c₀ → {n used : ℕ} → r ≡ Kept n used → ActionHeld text a → KnownHeld text bytes known c₀
+  pub learning_kept : {c₀ c₁ : Counters} → c ≡ c₀ → {n used : ℕ} → r ≡ Kept n used → ActionHeld text a → KnownHeld text bytes known c₀
       → c₁ ≡ record { rows = c.rows; report_len = c.report_len; size = c.size; used = c.used; known = n; known_used = used }
-      → Learning (learning s (asAction text a) (part store start len ∷ [])) sweep text bytes known c₀ bytes' known' (Going c₁)
-  learning-kept e p q h w = rw (← e, w) (kept-to p q (rw (← e) at h))
+      → Learning (learning s (as_action text a) (part store start len ∷ [])) sweep text bytes known c₀ bytes' known' (Going c₁)
+  learning_kept e p q h w = rw (← e, w) (kept_to p q (rw (← e) at h))
 
-  pub learning-full : {c₀ : Counters} → c ≡ c₀ → r ≡ Full → Learning (learning s (asAction text a) (part store start len ∷ [])) sweep text bytes known c₀ bytes' known' (Stopped TooMuchLearnt)
-  unfolding knownNow progressOf
-  learning-full e p = rw (← e) (record { out = λ report b k. rw k.is (recorded k.rows c.size ∙ rw p) })
+  pub learning_full : {c₀ : Counters} → c ≡ c₀ → r ≡ Full → Learning (learning s (as_action text a) (part store start len ∷ [])) sweep text bytes known c₀ bytes' known' (Stopped TooMuchLearnt)
+  unfolding known_now progress_of
+  learning_full e p = rw (← e) (record { out = λ report b k. rw k.is (recorded k.rows c.size ∙ rw p) })

@@ -2,12 +2,12 @@
 use Rattle.std.specs.Prelude.{◌≡◌, Bool, true, false, List, ℕ, ◌+◌, ◌-◌, ◌*◌, ◌≤◌, ◌<◌, ◌^◌, length, get_or, set}
 use Rattle.text.specs.Text.{Text, part, SameTo}
 use Rattle.message_model.specs.Message.{Leaf}
-use Rattle.run_model.specs.Redact.{Effect, after, Row, Event, changing, Known, Progress, running, stopped, afterEvents, printRow}
-use Rattle.er7_table.specs.Table.{cell, placeAt, storedText, leafAt, Good}
-use Rattle.er7_render.specs.Stored.{TextSet, liveLen, liveSum}
+use Rattle.run_model.specs.Redact.{Effect, after, Row, Event, changing, Known, Progress, running, stopped, after_events, print_row}
+use Rattle.er7_table.specs.Table.{cell, place_at, stored_text, leaf_at, Good}
+use Rattle.er7_render.specs.Stored.{TextSet, live_len, live_sum}
 use Rattle.redact_6_row.specs.Report.{RowAt, Reported}
 use Rattle.redact_5_act.specs.Act.{ActRoom}
-use Rattle.redact_5_act.specs.Known.{knownFrom, GoodKnown, ActionsHeld}
+use Rattle.redact_5_act.specs.Known.{known_from, GoodKnown, ActionsHeld}
 use Rattle.redact_5_act.specs.declared.state.Counters.{Counters}
 use Rattle.redact_5_act.specs.declared.state.Done.{Done}
 use Rattle.redact_5_act.specs.declared.state.Done.TheVariants.{Going, Stopped}
@@ -37,20 +37,20 @@ pub record Marked (named : List Bool) (i : ℕ) (named' : List Bool) : Type 0 wh
 
 -- the leaves that they hold
 abbrev pub leaves : Buffers → ℕ → Leaf
-leaves β i = leafAt (marked β.named) β.cells β.store i
+leaves β i = leaf_at (marked β.named) β.cells β.store i
 
 -- the text of leaf i, if it has not vanished
-unfoldable pub textIn : List ℕ → Text → ℕ → Text
-textIn cells store i = part store (cell cells i 1) (cell cells i 2)
+unfoldable pub text_in : List ℕ → Text → ℕ → Text
+text_in cells store i = part store (cell cells i 1) (cell cells i 2)
 
 -- ---- the values that are known, and the progress
 
 -- those that stand in `bytes`, by the rows of `known`
-unfoldable pub knownNow : Text → Text → List ℕ → Counters → List Known
-knownNow text bytes known c = knownFrom text bytes known 0 c.known
+unfoldable pub known_now : Text → Text → List ℕ → Counters → List Known
+known_now text bytes known c = known_from text bytes known 0 c.known
 
 abbrev pub knowing : Text → Buffers → Counters → List Known
-knowing text β c = knownNow text β.bytes β.known c
+knowing text β c = known_now text β.bytes β.known c
 
 pub record KnownHeld (text bytes : Text) (known : List ℕ) (c : Counters) : Type 0 where
   pub good : GoodKnown bytes known c.known c.known_used
@@ -74,7 +74,7 @@ pub record Held (text : Text) (n : ℕ) (β : Buffers) (c : Counters) : Type 0 w
 
 -- what no visit changes
 pub record Kept (β β' : Buffers) : Type 0 where
-  pub place : (j : ℕ) → placeAt β'.cells j ≡ placeAt β.cells j
+  pub place : (j : ℕ) → place_at β'.cells j ≡ place_at β.cells j
   pub cells : length β'.cells ≡ length β.cells
   pub report : length β'.report ≡ length β.report
 
@@ -87,12 +87,12 @@ pub record LearntTo (es : List Event) (sweep : Bool) (text bytes : Text) (known 
   pub size : c'.size ≡ c.size
   pub used : c'.used ≡ c.used
   pub held : KnownHeld text bytes' known' c'
-  pub progress : (report : Text) (b : Progress) → Recorded (knownNow text bytes known c) report c b → Recorded (knownNow text bytes' known' c') report c' (afterEvents sweep es b)
+  pub progress : (report : Text) (b : Progress) → Recorded (known_now text bytes known c) report c b → Recorded (known_now text bytes' known' c') report c' (after_events sweep es b)
 
 abbrev pub LearntOr : List Event → Bool → Text → Text → List ℕ → Counters → Text → List ℕ → Done → Type 0
 LearntOr es sweep text bytes known c bytes' known' (Going c') = LearntTo es sweep text bytes known c bytes' known' c'
 LearntOr es sweep text bytes known c bytes' known' (Stopped e) =
-    (report : Text) (b : Progress) → Recorded (knownNow text bytes known c) report c b → afterEvents sweep es b ≡ stopped e
+    (report : Text) (b : Progress) → Recorded (known_now text bytes known c) report c b → after_events sweep es b ≡ stopped e
 
 pub record Learning (es : List Event) (sweep : Bool) (text bytes : Text) (known : List ℕ) (c : Counters) (bytes' : Text) (known' : List ℕ) (r : Done) : Type 0 where
   pub out : LearntOr es sweep text bytes known c bytes' known' r
@@ -126,39 +126,39 @@ pub record Countable (came : ℕ) (c : Counters) : Type 0 where
 -- leaf i, of which `went` bytes went and `came` bytes came, was entered in the table and in the report
 pub record ChangePut (ρ : Row) (i went came : ℕ) (cells : List ℕ) (report : Text) (c : Counters) (cells' : List ℕ) (report' : Text) (c' : Counters) : Type 0 where
   pub set : TextSet cells i c.used came cells'
-  pub row : RowAt report c.report_len (printRow ρ) report' c'.report_len
-  pub row-most : c'.report_len ≤ c.report_len + 65536
+  pub row : RowAt report c.report_len (print_row ρ) report' c'.report_len
+  pub row_most : c'.report_len ≤ c.report_len + 65536
   pub rows : c'.rows ≡ c.rows + 1
   pub size : c'.size ≡ c.size - went + came
   pub used : c'.used ≡ c.used + came
   pub known : c'.known ≡ c.known
-  pub known-used : c'.known_used ≡ c.known_used
+  pub known_used : c'.known_used ≡ c.known_used
 
 -- leaf i of n had the effect F, with the row ρ, where `went` bytes of the message went; `node` says whether a node collapsed there
 pub record Changed (node : Bool) (F : Effect) (ρ : Row) (went n i : ℕ) (cells : List ℕ) (store report : Text) (c : Counters)
     (cells' : List ℕ) (store' report' : Text) (c' : Counters) : Type 0 where
   pub good : Good cells' store' n c'.used
-  pub here : storedText cells' store' i ≡ after F (textIn cells store i)
-  pub other : (j : ℕ) → j < n → (j ≡ i → ⊥) → storedText cells' store' j ≡ storedText cells store j
-  pub place : (j : ℕ) → placeAt cells' j ≡ placeAt cells j
-  pub lens : (j : ℕ) → (j ≡ i → ⊥) → liveLen cells' j ≡ liveLen cells j
-  pub cells-long : length cells' ≡ length cells
-  pub report-long : length report' ≡ length report
+  pub here : stored_text cells' store' i ≡ after F (text_in cells store i)
+  pub other : (j : ℕ) → j < n → (j ≡ i → ⊥) → stored_text cells' store' j ≡ stored_text cells store j
+  pub place : (j : ℕ) → place_at cells' j ≡ place_at cells j
+  pub lens : (j : ℕ) → (j ≡ i → ⊥) → live_len cells' j ≡ live_len cells j
+  pub cells_long : length cells' ≡ length cells
+  pub report_long : length report' ≡ length report
   pub paid : node ≡ false → c'.used + c.size ≤ c.used + c'.size + cell cells i 2
   pub flat : node ≡ true → c'.used ≤ c.used + 2
   pub grows : c.used ≤ c'.used
   pub known : c'.known ≡ c.known
-  pub known-used : c'.known_used ≡ c.known_used
+  pub known_used : c'.known_used ≡ c.known_used
   pub rows : c'.rows ≤ c.rows + 1
-  pub report-most : c'.report_len ≤ c.report_len + 65536
-  pub size-most : c'.size ≤ TEXT_MAX
-  pub progress : (sweep : Bool) (ks : List Known) (b : Progress) → Recorded ks report c b → Recorded ks report' c' (afterEvents sweep (changing ρ went F) b)
+  pub report_most : c'.report_len ≤ c.report_len + 65536
+  pub size_most : c'.size ≤ TEXT_MAX
+  pub progress : (sweep : Bool) (ks : List Known) (b : Progress) → Recorded ks report c b → Recorded ks report' c' (after_events sweep (changing ρ went F) b)
 
 -- .. or the run was refused
 abbrev pub ChangedOr : Bool → Effect → Row → ℕ → ℕ → ℕ → List ℕ → Text → Text → Counters → List ℕ → Text → Text → Done → Type 0
 ChangedOr node F ρ went n i cells store report c cells' store' report' (Going c') = Changed node F ρ went n i cells store report c cells' store' report' c'
 ChangedOr node F ρ went n i cells store report c cells' store' report' (Stopped e) =
-    (sweep : Bool) (ks : List Known) (b : Progress) → Recorded ks report c b → afterEvents sweep (changing ρ went F) b ≡ stopped e
+    (sweep : Bool) (ks : List Known) (b : Progress) → Recorded ks report c b → after_events sweep (changing ρ went F) b ≡ stopped e
 
 pub record Change (node : Bool) (F : Effect) (ρ : Row) (went n i : ℕ) (cells : List ℕ) (store report : Text) (c : Counters)
     (cells' : List ℕ) (store' report' : Text) (r : Done) : Type 0 where
@@ -175,10 +175,10 @@ pub record ActedOn (F : Effect) (ρ : Row) (n i : ℕ) (cells : List ℕ) (store
 -- The store has room for all that the pass may still write, and rows and report have room to be counted. A pass that acts on leaves
 -- may write a text for each, and all texts together are no longer than the message; one that collapses nodes writes two bytes for each.
 pub record RoomLeft (node : Bool) (cells : List ℕ) (i n : ℕ) (c : Counters) : Type 0 where
-  pub sum : node ≡ false → c.used + liveSum cells i (n - i) ≤ TEXT_MAX + c.size
+  pub sum : node ≡ false → c.used + live_sum cells i (n - i) ≤ TEXT_MAX + c.size
   pub flat : node ≡ true → c.used + 2 * (n - i) ≤ 98304
-  pub within : node ≡ false → liveSum cells i (n - i) ≤ c.size
-  pub texts : liveSum cells i (n - i) ≤ TEXT_MAX
+  pub within : node ≡ false → live_sum cells i (n - i) ≤ c.size
+  pub texts : live_sum cells i (n - i) ≤ TEXT_MAX
   pub most : c.size ≤ TEXT_MAX
   pub few : c.rows + (n - i) ≤ 2 ^ 31
   pub report : c.report_len + (n - i) * 65536 ≤ 2 ^ 47
@@ -189,7 +189,7 @@ pub record NodeReady (cells : List ℕ) (store : Text) (n i end : ℕ) (c : Coun
   pub ends : end ≤ n
   pub good : Good cells store n c.used
   pub live : cell cells i 3 ≡ 0
-  pub texts : liveSum cells i (end - i) ≤ TEXT_MAX
+  pub texts : live_sum cells i (end - i) ≤ TEXT_MAX
   pub most : c.size ≤ TEXT_MAX
   pub room : c.used + 2 ≤ 98304
   pub rows : c.rows ≤ 2 ^ 32

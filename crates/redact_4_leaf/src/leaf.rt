@@ -1,11 +1,11 @@
 // One leaf: its mark, its new text, and its row.
 ghost use Rattle.std.specs.Prelude.{◌+◌, ◌*◌, ◌≤◌, ◌<◌, ◌^◌, length};
-ghost use Rattle.er7_redact.specs.Action.{asAction, ActionHeld};
+ghost use Rattle.er7_redact.specs.Action.{as_action, ActionHeld};
 ghost use Rattle.run_model.specs.Redact.{row};
 ghost use Rattle.run_model.specs.Redact as Redact;
-ghost use Rattle.er7_table.specs.Table.{placeAt, asLabel};
-ghost use Rattle.redact_5_act.specs.State.{counted, afterStep};
-ghost use Rattle.redact_4_leaf.specs.State.{textIn, Ready, Countable, ChangePut, Marked, ActedOn};
+ghost use Rattle.er7_table.specs.Table.{place_at, as_label};
+ghost use Rattle.redact_5_act.specs.State.{counted, after_step};
+ghost use Rattle.redact_4_leaf.specs.State.{text_in, Ready, Countable, ChangePut, Marked, ActedOn};
 ghost use Rattle.refusal.specs.Limits.{INPUT_MAX};
 
 use er7::message::Label;
@@ -45,7 +45,7 @@ pub fn put_change(
     tally: &mut [usize; 6],
 )
     requires { ActionHeld text.now a × (at.index * 8 + 8 ≤ length cells.old) × Countable came (counted tally.old) × (length text.now ≤ INPUT_MAX) }
-    ensures { ChangePut (row (asLabel at.label) (placeAt cells.old at.index) (asAction text.now a)) at.index went came cells.old report.old (counted tally.old) cells.new report.new (counted tally.new) }
+    ensures { ChangePut (row (as_label at.label) (place_at cells.old at.index) (as_action text.now a)) at.index went came cells.old report.old (counted tally.old) cells.new report.new (counted tally.new) }
 {
     let c = read_tally(tally);
     let used = c.used;
@@ -80,7 +80,7 @@ pub fn act_on(
     tally: &mut [usize; 6],
 ) -> Step
     requires { ActionHeld text.now a × Ready cells.old store.old on.leaves at.index (counted tally.old) × (length text.now ≤ INPUT_MAX) }
-    ensures { ActedOn (Redact.act on.key on.separators (asAction text.now a) (textIn cells.old store.old at.index)) (row (asLabel at.label) (placeAt cells.old at.index) (asAction text.now a)) on.leaves at.index cells.old store.old report.old bytes.old (counted tally.old) cells.new store.new report.new bytes.new (afterStep (counted tally.new) result) }
+    ensures { ActedOn (Redact.act on.key on.separators (as_action text.now a) (text_in cells.old store.old at.index)) (row (as_label at.label) (place_at cells.old at.index) (as_action text.now a)) on.leaves at.index cells.old store.old report.old bytes.old (counted tally.old) cells.new store.new report.new bytes.new (after_step (counted tally.new) result) }
 {
     let row = at.index * 8;
     let start = cells[row + 1];

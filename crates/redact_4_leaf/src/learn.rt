@@ -1,10 +1,10 @@
 // A leaf's value is learnt.
 ghost use Rattle.std.specs.Prelude.{[], ◌∷◌};
 ghost use Rattle.text.specs.Text.{Text};
-ghost use Rattle.er7_redact.specs.Action.{asAction, ActionHeld};
+ghost use Rattle.er7_redact.specs.Action.{as_action, ActionHeld};
 ghost use Rattle.run_model.specs.Redact.{learning};
-ghost use Rattle.redact_5_act.specs.State.{counted, afterStep};
-ghost use Rattle.redact_4_leaf.specs.State.{textIn, KnownHeld, Learning, Readable};
+ghost use Rattle.redact_5_act.specs.State.{counted, after_step};
+ghost use Rattle.redact_4_leaf.specs.State.{text_in, KnownHeld, Learning, Readable};
 
 use er7_redact::action::Action;
 use redact_5_act::known::{KNOWN_CELLS, Learnt, learn_leaf};
@@ -23,7 +23,7 @@ pub fn learn_at(
     tally: &mut [usize; 6],
 ) -> Step
     requires { Readable cells.now bytes.old known.old i (counted tally.old) }
-    ensures { (text : Text) → ActionHeld text a → KnownHeld text bytes.old known.old (counted tally.old) → Learning (learning on.separators (asAction text a) (textIn cells.now store.now i ∷ [])) on.sweep text bytes.old known.old (counted tally.old) bytes.new known.new (afterStep (counted tally.new) result) }
+    ensures { (text : Text) → ActionHeld text a → KnownHeld text bytes.old known.old (counted tally.old) → Learning (learning on.separators (as_action text a) (text_in cells.now store.now i ∷ [])) on.sweep text bytes.old known.old (counted tally.old) bytes.new known.new (after_step (counted tally.new) result) }
 {
     if !on.sweep {
         return Step::Made;

@@ -1,12 +1,12 @@
 // Visits to a leaf that may be touched and that has not vanished.
 ghost use Rattle.std.specs.Prelude.{◌≡◌, Bool, true, false, List, ◌≤◌, length};
 ghost use Rattle.er7_redact.specs.Action.{ActionHeld};
-ghost use Rattle.er7_redact.specs.Policy.{asRule};
-ghost use Rattle.run_model.specs.Redact.{reach, each-leaf, covers, forSweep, isUnnamed};
-ghost use Rattle.er7_table.specs.Table.{placeAt, asLabel};
-ghost use Rattle.redact_5_act.specs.State.{counted, afterStep};
+ghost use Rattle.er7_redact.specs.Policy.{as_rule};
+ghost use Rattle.run_model.specs.Redact.{reach, each_leaf, covers, for_sweep, is_unnamed};
+ghost use Rattle.er7_table.specs.Table.{place_at, as_label};
+ghost use Rattle.redact_5_act.specs.State.{counted, after_step};
 ghost use Rattle.redact_4_leaf.specs.State.{buffers, marked, KnownHeld, Ready, Marked};
-ghost use Rattle.redact_4_leaf.specs.Visit.{rulePass, unnamedPass, Visit};
+ghost use Rattle.redact_4_leaf.specs.Visit.{rule_pass, unnamed_pass, Visit};
 ghost use Rattle.refusal.specs.Limits.{INPUT_MAX, LEAVES_MAX};
 
 use super::leaf::{Spot, act_on};
@@ -29,8 +29,8 @@ pub fn apply_leaf(
     known: &mut [usize; KNOWN_CELLS],
     tally: &mut [usize; 6],
 ) -> Step
-    requires { ActionHeld text.now rule.action × (reach (asRule text.now rule) ≡ each-leaf) × (covers (asRule text.now rule) (asLabel at.label) (placeAt cells.old at.index) ≡ true) × Ready cells.old store.old on.leaves at.index (counted tally.old) × KnownHeld text.now bytes.old known.old (counted tally.old) × (length text.now ≤ INPUT_MAX) × (on.leaves ≤ LEAVES_MAX) }
-    ensures { (named named' : List Bool) → Marked named at.index named' → Visit (λ ks. rulePass on.key on.separators (asRule text.now rule)) false on at text.now (buffers named cells.old store.old report.old bytes.old known.old) (counted tally.old) (buffers named' cells.new store.new report.new bytes.new known.new) (afterStep (counted tally.new) result) }
+    requires { ActionHeld text.now rule.action × (reach (as_rule text.now rule) ≡ each_leaf) × (covers (as_rule text.now rule) (as_label at.label) (place_at cells.old at.index) ≡ true) × Ready cells.old store.old on.leaves at.index (counted tally.old) × KnownHeld text.now bytes.old known.old (counted tally.old) × (length text.now ≤ INPUT_MAX) × (on.leaves ≤ LEAVES_MAX) }
+    ensures { (named named' : List Bool) → Marked named at.index named' → Visit (λ ks. rule_pass on.key on.separators (as_rule text.now rule)) false on at text.now (buffers named cells.old store.old report.old bytes.old known.old) (counted tally.old) (buffers named' cells.new store.new report.new bytes.new known.new) (after_step (counted tally.new) result) }
 {
     let a = rule.action;
     if is_keep(a) {
@@ -55,7 +55,7 @@ pub fn sweep_leaf(
     tally: &mut [usize; 6],
 ) -> Step
     requires { KnownHeld text.now bytes.old known.now (counted tally.old) × Ready cells.old store.old on.leaves at.index (counted tally.old) × (length text.now ≤ INPUT_MAX) × (on.leaves ≤ LEAVES_MAX) }
-    ensures { (named : List Bool) → isUnnamed (asLabel at.label) (placeAt cells.old at.index) (marked named at.index) ≡ true → Visit (λ ks. unnamedPass on.key on.separators (forSweep on.separators ks)) false on at text.now (buffers named cells.old store.old report.old bytes.old known.now) (counted tally.old) (buffers named cells.new store.new report.new bytes.new known.now) (afterStep (counted tally.new) result) }
+    ensures { (named : List Bool) → is_unnamed (as_label at.label) (place_at cells.old at.index) (marked named at.index) ≡ true → Visit (λ ks. unnamed_pass on.key on.separators (for_sweep on.separators ks)) false on at text.now (buffers named cells.old store.old report.old bytes.old known.now) (counted tally.old) (buffers named cells.new store.new report.new bytes.new known.now) (after_step (counted tally.new) result) }
 {
     let c = read_tally(tally);
     let row = at.index * 8;

@@ -8,21 +8,21 @@ use borrow.Author.Tests.{ltb-true, ltb-false}
 use lib.ListN.{length, length-take}
 use lib.Dec.{ltb}
 use Rattle.text.specs.Text.{Text, same, part, between, Wrote, SameTo, StandsAt}
-use Rattle.text.proofs.Kept.{same-all, same_then, part_length, wrote-between, wrote-stands, stands_same}
-use Rattle.text.proofs.Words.{same-eq}
+use Rattle.text.proofs.Kept.{same_all, same_then, part_length, wrote_between, wrote_stands, stands_same}
+use Rattle.text.proofs.Words.{same_eq}
 use Rattle.er7.specs.declared.separators.Separators.{Separators}
 use Rattle.er7_redact.specs.declared.action.Applied.TheVariants.{Written, Nothing}
-use Rattle.er7_redact.specs.Action.{Action, isNullAction, apply, answer, written, room}
-use Rattle.er7_redact.proofs.Actions.{room-written, answered-nothing, answered-text, answered-room, answered-length}
-use Rattle.er7_value.proofs.Decoding.{value-length}
-use Rattle.er7_value.proofs.Encoding.{encode-length, encode_same}
-use Rattle.message_model.specs.Value.{is_null, isEmptyOrNull, encode, NULL, value}
+use Rattle.er7_redact.specs.Action.{Action, is_null_action, apply, answer, written, room}
+use Rattle.er7_redact.proofs.Actions.{room_written, answered_nothing, answered_text, answered_room, answered_length}
+use Rattle.er7_value.proofs.Decoding.{value_length}
+use Rattle.er7_value.proofs.Encoding.{encode_length, encode_same}
+use Rattle.message_model.specs.Value.{is_null, is_empty_or_null, encode, NULL, value}
 use Rattle.run_model.specs.Redact.{Effect, stays, becomes, replaced, act}
 use Rattle.redact_5_act.specs.declared.act.Effect.{Effect as HeldEffect}
 use Rattle.redact_5_act.specs.declared.act.Effect.TheVariants.{Stays, Becomes, TooLong}
 use Rattle.redact_5_act.specs.declared.state.Counters.{Counters}
 use Rattle.redact_5_act.specs.Act.{Became, Overran, ActedOr, Acted, ActedBeside, ActRoom}
-use Rattle.redact_5_act.specs.Inner.{nulled, onValue, decodedAt, Decoded, Fits}
+use Rattle.redact_5_act.specs.Inner.{nulled, on_value, decoded_at, Decoded, Fits}
 use Rattle.refusal.specs.Limits.{TEXT_MAX}
 
 -- ---- room
@@ -41,8 +41,8 @@ module _ {went : ℕ} {c : Counters} (w : Text) {n : ℕ} (e : n ≡ length w) w
   became q g = record { text = w; is = refl; long = e; few = ltb-false TEXT_MAX (c.size - went + n) q; stands = g }
 
 -- the same effect by another definition
-pub acted-as : {f g : Effect} {went : ℕ} {c : Counters} {d d' : Text} {r : HeldEffect} → f ≡ g → Acted g went c d d' r → Acted f went c d d' r
-acted-as e h = rw e h
+pub acted_as : {f g : Effect} {went : ℕ} {c : Counters} {d d' : Text} {r : HeldEffect} → f ≡ g → Acted g went c d d' r → Acted f went c d d' r
+acted_as e h = rw e h
 
 -- .. where the store has changed behind what is kept of it
 or_as : {f g : Effect} (went : ℕ) (c : Counters) {d e : Text} (d' : Text) → f ≡ g → SameTo c.used d e → (r : HeldEffect) → ActedOr g went c e d' r → ActedOr f went c d d' r
@@ -51,129 +51,129 @@ or_as went c d' p q (Becomes n) h = record { text = h.text; is = p ∙ h.is; lon
 or_as went c d' p q TooLong h = record { text = h.text; is = p ∙ h.is; over = h.over }
 
 -- .. and so have the bytes
-pub beside-as : {f g : Effect} {went : ℕ} {c : Counters} {d e d' b b₁ b₂ : Text} {r : HeldEffect} → f ≡ g → SameTo c.used d e → SameTo c.known_used b b₁
+pub beside_as : {f g : Effect} {went : ℕ} {c : Counters} {d e d' b b₁ b₂ : Text} {r : HeldEffect} → f ≡ g → SameTo c.used d e → SameTo c.known_used b b₁
     → ActedBeside g went c e d' b₁ b₂ r → ActedBeside f went c d d' b b₂ r
-beside-as {r = r} p q s h = record { out = or_as _ _ _ p q r h.out; beside = same_then s h.beside }
+beside_as {r = r} p q s h = record { out = or_as _ _ _ p q r h.out; beside = same_then s h.beside }
 
 -- where no bytes are for work
-pub acted-beside : {f g : Effect} {went : ℕ} {c : Counters} {d d' b : Text} {r : HeldEffect} → f ≡ g → Acted g went c d d' r → ActedBeside f went c d d' b b r
-acted-beside {r = r} e h = record { out = or_as _ _ _ e same-all r h.out; beside = same-all }
+pub acted_beside : {f g : Effect} {went : ℕ} {c : Counters} {d d' b : Text} {r : HeldEffect} → f ≡ g → Acted g went c d d' r → ActedBeside f went c d d' b b r
+acted_beside {r = r} e h = record { out = or_as _ _ _ e same_all r h.out; beside = same_all }
 
 -- ---- a value whose delimiters are escaped: v, which was read as t, takes m bytes
 
 long_as : (s : Separators) {t : Text} (v : Text) {m : ℕ} → t ≡ v → m ≡ length (encode s t) → m ≡ length (encode s v)
 long_as s v e h = h ∙ ap (λ (x : Text). length (encode s x)) e
 
-pub escaped-room : (s : Separators) {went : ℕ} {c : Counters} {t : Text} (u : Text) {m : ℕ} → u ≡ t → m ≡ length (encode s t) → ltb TEXT_MAX (c.size - went + m) ≡ false → ActRoom went c
+pub escaped_room : (s : Separators) {went : ℕ} {c : Counters} {t : Text} (u : Text) {m : ℕ} → u ≡ t → m ≡ length (encode s t) → ltb TEXT_MAX (c.size - went + m) ≡ false → ActRoom went c
     → c.used + length (encode s u) ≤ 98304
-escaped-room s {went} {c} {t} u {m} i h q g = room_fits (length (encode s u)) g (rw i (rw (← h) (ltb-false TEXT_MAX (c.size - went + m) q)))
+escaped_room s {went} {c} {t} u {m} i h q g = room_fits (length (encode s u)) g (rw i (rw (← h) (ltb-false TEXT_MAX (c.size - went + m) q)))
 
 module _ (s : Separators) {went : ℕ} {c : Counters} {t : Text} (v : Text) {m : ℕ} (e : t ≡ v) (h : m ≡ length (encode s t)) where
-  pub escaped-over : ltb TEXT_MAX (c.size - went + m) ≡ true → Overran (becomes (encode s v)) went c
-  escaped-over q = overran (encode s v) (long_as s v e h) q
+  pub escaped_over : ltb TEXT_MAX (c.size - went + m) ≡ true → Overran (becomes (encode s v)) went c
+  escaped_over q = overran (encode s v) (long_as s v e h) q
 
   module _ (q : ltb TEXT_MAX (c.size - went + m) ≡ false) where
-    pub escaped-anew : {d d' u : Text} {r : ℕ} → u ≡ t → Wrote d c.used (encode s u) d' r → Became (becomes (encode s v)) went c d d' m
-    escaped-anew i w = became (encode s v) (long_as s v e h) q (rw (← e, ← i) (wrote-stands w))
+    pub escaped_anew : {d d' u : Text} {r : ℕ} → u ≡ t → Wrote d c.used (encode s u) d' r → Became (becomes (encode s v)) went c d d' m
+    escaped_anew i w = became (encode s v) (long_as s v e h) q (rw (← e, ← i) (wrote_stands w))
 
 -- .. n bytes of the store, none of which is escaped
-pub escaped-same : (s : Separators) {went : ℕ} {c : Counters} {t : Text} (d : Text) {n m : ℕ} → t ≡ part d c.used n → m ≡ length (encode s t) → ltb TEXT_MAX (c.size - went + m) ≡ false
+pub escaped_same : (s : Separators) {went : ℕ} {c : Counters} {t : Text} (d : Text) {n m : ℕ} → t ≡ part d c.used n → m ≡ length (encode s t) → ltb TEXT_MAX (c.size - went + m) ≡ false
     → c.used + n ≤ length d → m ≡ n → Became (becomes (encode s (part d c.used n))) went c d d n
-escaped-same s {went} {c} {t} d {n} {m} e h q l i =
+escaped_same s {went} {c} {t} d {n} {m} e h q l i =
     let k = part_length d c.used n l in
     let x = encode_same s (part d c.used n) (sym (long_as s (part d c.used n) e h) ∙ i ∙ sym k) in
-    rw x (became (part d c.used n) (sym k) (rw (← i) q) (record { before = same-all; room = omega (arith, k); here = rw k }))
+    rw x (became (part d c.used n) (sym k) (rw (← i) q) (record { before = same_all; room = omega (arith, k); here = rw k }))
 
 -- ---- a value in the place of another
 
 module _ (s : Separators) (w v : Text) where
-  pub replaced-same : same w v ≡ true → replaced s (some w) v ≡ stays
+  pub replaced_same : same w v ≡ true → replaced s (some w) v ≡ stays
   unfolding replaced
-  replaced-same e = rw e
+  replaced_same e = rw e
 
-  pub replaced-other : same w v ≡ false → replaced s (some w) v ≡ becomes (encode s w)
+  pub replaced_other : same w v ≡ false → replaced s (some w) v ≡ becomes (encode s w)
   unfolding replaced
-  replaced-other e = rw e
+  replaced_other e = rw e
 
   -- one that is longer differs
   longer : length v < length w → same w v ≡ false
-  longer h = by-same (same w v) refl
+  longer h = by_same (same w v) refl
     where
-      by-same : (b : Bool) → same w v ≡ b → b ≡ false
-      by-same false q = refl
-      by-same true q = absurd (omega (arith, h, ap length (same-eq w v q)))
+      by_same : (b : Bool) → same w v ≡ b → b ≡ false
+      by_same false q = refl
+      by_same true q = absurd (omega (arith, h, ap length (same_eq w v q)))
 
-  pub replaced-over : {went : ℕ} {c : Counters} → length v ≤ went → went ≤ c.size → c.size ≤ TEXT_MAX → TEXT_MAX < c.size - went + length w → Overran (replaced s (some w) v) went c
-  replaced-over i j k h = record { text = encode s w; is = replaced-other (longer (omega arith)); over = omega (arith, encode-length s w) }
+  pub replaced_over : {went : ℕ} {c : Counters} → length v ≤ went → went ≤ c.size → c.size ≤ TEXT_MAX → TEXT_MAX < c.size - went + length w → Overran (replaced s (some w) v) went c
+  replaced_over i j k h = record { text = encode s w; is = replaced_other (longer (omega arith)); over = omega (arith, encode_length s w) }
 
 -- what an action writes, or that it writes nothing
 module _ (s : Separators) (o : Option Text) (v : Text) where
-  pub replaced-none : answer o ≡ Nothing → replaced s o v ≡ stays
+  pub replaced_none : answer o ≡ Nothing → replaced s o v ≡ stays
   unfolding replaced
-  replaced-none e = rw (answered-nothing o e)
+  replaced_none e = rw (answered_nothing o e)
 
   module _ {n : ℕ} (e : answer o ≡ Written n) where
-    pub replaced-some : replaced s o v ≡ replaced s (some (written o)) v
-    replaced-some = ap (λ (x : Option Text). replaced s x v) (answered-text o e)
+    pub replaced_some : replaced s o v ≡ replaced s (some (written o)) v
+    replaced_some = ap (λ (x : Option Text). replaced s x v) (answered_text o e)
 
-    pub applied-over : {went : ℕ} {c : Counters} → length v ≤ went → ActRoom went c → ltb TEXT_MAX (c.size - went + n) ≡ true → Overran (replaced s o v) went c
-    applied-over {went} {c} l h q =
+    pub applied_over : {went : ℕ} {c : Counters} → length v ≤ went → ActRoom went c → ltb TEXT_MAX (c.size - went + n) ≡ true → Overran (replaced s o v) went c
+    applied_over {went} {c} l h q =
         let x = ltb-true TEXT_MAX (c.size - went + n) q in
-        rw replaced-some (replaced-over s (written o) v l h.within h.most (omega (arith, answered-length o e)))
+        rw replaced_some (replaced_over s (written o) v l h.within h.most (omega (arith, answered_length o e)))
 
-pub applied-fits : (o : Option Text) {n went : ℕ} {c : Counters} → answer o ≡ Written n → ltb TEXT_MAX (c.size - went + n) ≡ false → Fits o went c
-applied-fits o {n} {went} {c} e q = let x = ltb-false TEXT_MAX (c.size - went + n) q in record { few = omega (arith, answered-room o e) }
+pub applied_fits : (o : Option Text) {n went : ℕ} {c : Counters} → answer o ≡ Written n → ltb TEXT_MAX (c.size - went + n) ≡ false → Fits o went c
+applied_fits o {n} {went} {c} e q = let x = ltb-false TEXT_MAX (c.size - went + n) q in record { few = omega (arith, answered_room o e) }
 
 -- what was written of it stands in the store d' up to index r, and is read from there
 module _ (s : Separators) (o : Option Text) (v : Text) {d d' : Text} {used r : ℕ} (w : Wrote d used (written o) d' r) where
   pub read_same : same (between d' used r) v ≡ true → replaced s (some (written o)) v ≡ stays
-  read_same e = replaced-same s (written o) v (rw (← wrote-between w) e)
+  read_same e = replaced_same s (written o) v (rw (← wrote_between w) e)
 
-  pub read-other : same (between d' used r) v ≡ false → replaced s (some (written o)) v ≡ becomes (encode s (part d' used (r - used)))
+  pub read_other : same (between d' used r) v ≡ false → replaced s (some (written o)) v ≡ becomes (encode s (part d' used (r - used)))
   unfolding part between
-  read-other e = replaced-other s (written o) v (rw (← wrote-between w) e) ∙ ap (λ (x : Text). becomes (encode s x)) (sym (wrote-between w))
+  read_other e = replaced_other s (written o) v (rw (← wrote_between w) e) ∙ ap (λ (x : Text). becomes (encode s x)) (sym (wrote_between w))
 
-pub written-few : (o : Option Text) {d d' : Text} {used r went : ℕ} {c : Counters} → Wrote d used (written o) d' r → Fits o went c → r - used ≤ TEXT_MAX
-written-few o w g = omega (arith, g.few, room-written o, w.end)
+pub written_few : (o : Option Text) {d d' : Text} {used r went : ℕ} {c : Counters} → Wrote d used (written o) d' r → Fits o went c → r - used ≤ TEXT_MAX
+written_few o w g = omega (arith, g.few, room_written o, w.end)
 
 -- ---- a leaf's value
 
-pub decoded-short : {b : Text} {to len : ℕ} {c : Counters} → Decoded b to len c → length (decodedAt b to c) ≤ len
-unfolding decodedAt between
-decoded-short g = simp length-take (omega (arith, g.high))
+pub decoded_short : {b : Text} {to len : ℕ} {c : Counters} → Decoded b to len c → length (decoded_at b to c) ≤ len
+unfolding decoded_at between
+decoded_short g = simp length-take (omega (arith, g.high))
 
 -- the value of t was written to the bytes behind the learnt values, which left b'
 module _ (s : Separators) (t : Text) (c : Counters) {b b' : Text} {to : ℕ} (w : Wrote b c.known_used (value s t) b' to) where
-  pub value-decoded : {len : ℕ} → length t ≤ len → ActRoom len c → Decoded b' to len c
-  value-decoded l h = record { low = omega (arith, w.end); high = omega (arith, w.end, value-length s t); room = omega (arith, w.end, value-length s t, h.within, h.most, h.beside) }
+  pub value_decoded : {len : ℕ} → length t ≤ len → ActRoom len c → Decoded b' to len c
+  value_decoded l h = record { low = omega (arith, w.end); high = omega (arith, w.end, value_length s t); room = omega (arith, w.end, value_length s t, h.within, h.most, h.beside) }
 
-  value-is : decodedAt b' to c ≡ value s t
-  unfolding decodedAt
-  value-is = wrote-between w
+  value_is : decoded_at b' to c ≡ value s t
+  unfolding decoded_at
+  value_is = wrote_between w
 
-  pub value-replaced : (key : ℕ) (a : Action) (u : Text) → t ≡ u → onValue key s a u ≡ replaced s (apply key a (decodedAt b' to c)) (decodedAt b' to c)
-  unfolding onValue
-  value-replaced key a u h = rw (← h, value-is)
+  pub value_replaced : (key : ℕ) (a : Action) (u : Text) → t ≡ u → on_value key s a u ≡ replaced s (apply key a (decoded_at b' to c)) (decoded_at b' to c)
+  unfolding on_value
+  value_replaced key a u h = rw (← h, value_is)
 
 -- ---- an action
 
 module _ (key : ℕ) (s : Separators) (a : Action) (t : Text) where
-  pub act-null : isNullAction a ≡ true → act key s a t ≡ nulled t
+  pub act_null : is_null_action a ≡ true → act key s a t ≡ nulled t
   unfolding act nulled
-  act-null e = rw e
+  act_null e = rw e
 
-  pub act-empty : isNullAction a ≡ false → isEmptyOrNull t ≡ true → act key s a t ≡ stays
+  pub act_empty : is_null_action a ≡ false → is_empty_or_null t ≡ true → act key s a t ≡ stays
   unfolding act
-  act-empty e f = rw (e, f)
+  act_empty e f = rw (e, f)
 
-  pub act-value : isNullAction a ≡ false → isEmptyOrNull t ≡ false → act key s a t ≡ onValue key s a t
-  unfolding act onValue
-  act-value e f = rw (e, f)
+  pub act_value : is_null_action a ≡ false → is_empty_or_null t ≡ false → act key s a t ≡ on_value key s a t
+  unfolding act on_value
+  act_value e f = rw (e, f)
 
-pub nulled-null : (t : Text) → is_null t ≡ true → nulled t ≡ stays
+pub nulled_null : (t : Text) → is_null t ≡ true → nulled t ≡ stays
 unfolding nulled
-nulled-null t e = rw e
+nulled_null t e = rw e
 
-pub nulled-other : (t : Text) → is_null t ≡ false → nulled t ≡ becomes NULL
+pub nulled_other : (t : Text) → is_null t ≡ false → nulled t ≡ becomes NULL
 unfolding nulled
-nulled-other t e = rw e
+nulled_other t e = rw e

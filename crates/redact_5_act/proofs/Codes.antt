@@ -12,8 +12,8 @@ use mir.Val.{SFits, to_z, of_z}
 use mir.ValLaws.{to_z-of_z}
 use Rattle.text.proofs.Laws.{clash}
 use Rattle.er7_redact.specs.declared.action.Action.TheVariants as Held
-use Rattle.er7_redact.proofs.Days.{less-back}
-use Rattle.redact_5_act.specs.Known.{daysIn, actionOf}
+use Rattle.er7_redact.proofs.Days.{less_back}
+use Rattle.redact_5_act.specs.Known.{days_in, action_of}
 
 minus_one : (k : ℕ) → negsuc 0 -ℤ pos k ≡ negsuc k
 minus_one zero = refl
@@ -21,36 +21,36 @@ minus_one (suc k) = ap negsuc (omega arith)
 
 -- the days of two numbers: z is the first one, read as a signed number
 module _ (x y : ℕ) {z : ℤ} (e : z ≡ pos (x % 2 ^ 63)) where
-  below-is : negsuc 0 -ℤ z ≡ negsuc (x % 2 ^ 63)
-  below-is = ap (λ (k : ℤ). negsuc 0 -ℤ k) e ∙ minus_one (x % 2 ^ 63)
+  below_is : negsuc 0 -ℤ z ≡ negsuc (x % 2 ^ 63)
+  below_is = ap (λ (k : ℤ). negsuc 0 -ℤ k) e ∙ minus_one (x % 2 ^ 63)
 
-  pub below-fits : SFits w64 (negsuc 0 -ℤ z)
-  below-fits = subst (SFits w64) (sym below-is) (record { sfits = omega arith })
+  pub below_fits : SFits w64 (negsuc 0 -ℤ z)
+  below_fits = subst (SFits w64) (sym below_is) (record { sfits = omega arith })
 
-  pub days-below : y ≡ 1 → to_z w64 (of_z w64 (negsuc 0 -ℤ z)) ≡ daysIn x y
-  unfolding daysIn
-  days-below h = to_z-of_z w64 (negsuc 0 -ℤ z) below-fits ∙ below-is ∙ sym (rw (eq-eqb y 1 h))
+  pub days_below : y ≡ 1 → to_z w64 (of_z w64 (negsuc 0 -ℤ z)) ≡ days_in x y
+  unfolding days_in
+  days_below h = to_z-of_z w64 (negsuc 0 -ℤ z) below_fits ∙ below_is ∙ sym (rw (eq-eqb y 1 h))
 
-  pub days-above : (y ≡ 1 → ⊥) → z ≡ daysIn x y
-  unfolding daysIn
-  days-above h = e ∙ sym (rw (ne_eqb y 1 h))
+  pub days_above : (y ≡ 1 → ⊥) → z ≡ days_in x y
+  unfolding days_in
+  days_above h = e ∙ sym (rw (ne_eqb y 1 h))
 
 -- the two numbers of the days n
-below : (n : ℤ) → SFits w64 n → lt_z n (pos 0) ≡ true → daysIn (mag n) 1 ≡ n
-unfolding daysIn
+below : (n : ℤ) → SFits w64 n → lt_z n (pos 0) ≡ true → days_in (mag n) 1 ≡ n
+unfolding days_in
 below (pos k) f h = absurd (omega (arith, ltb-true k 0 h))
 below (negsuc k) f h = ap negsuc (mod-eq_of_lt f.sfits)
 
-above : (n : ℤ) → SFits w64 n → lt_z n (pos 0) ≡ false → daysIn (nat_abs n) 0 ≡ n
-unfolding daysIn
+above : (n : ℤ) → SFits w64 n → lt_z n (pos 0) ≡ false → days_in (nat_abs n) 0 ≡ n
+unfolding days_in
 above (pos k) f h = ap pos (mod-eq_of_lt f.sfits)
 above (negsuc k) f h = clash h
 
 module _ (n : ℤ) (f : SFits w64 n) {n' : ℤ} (i : n' ≡ n) where
-  pub code_below : lt_z n' (pos 0) ≡ true → actionOf 8 (nat_abs (to_z w64 (of_z w64 (negsuc 0 -ℤ n')))) 1 ≡ Held.Shift n
-  unfolding actionOf
-  code_below h = ap Held.Shift (ap (λ (x : ℤ). daysIn (nat_abs x) 1) (less-back n f i h) ∙ below n f (subst (λ (x : ℤ). lt_z x (pos 0) ≡ true) i h))
+  pub code_below : lt_z n' (pos 0) ≡ true → action_of 8 (nat_abs (to_z w64 (of_z w64 (negsuc 0 -ℤ n')))) 1 ≡ Held.Shift n
+  unfolding action_of
+  code_below h = ap Held.Shift (ap (λ (x : ℤ). days_in (nat_abs x) 1) (less_back n f i h) ∙ below n f (subst (λ (x : ℤ). lt_z x (pos 0) ≡ true) i h))
 
-  pub code-above : lt_z n' (pos 0) ≡ false → actionOf 8 (nat_abs n') 0 ≡ Held.Shift n
-  unfolding actionOf
-  code-above h = ap Held.Shift (ap (λ (x : ℤ). daysIn (nat_abs x) 0) i ∙ above n f (subst (λ (x : ℤ). lt_z x (pos 0) ≡ false) i h))
+  pub code_above : lt_z n' (pos 0) ≡ false → action_of 8 (nat_abs n') 0 ≡ Held.Shift n
+  unfolding action_of
+  code_above h = ap Held.Shift (ap (λ (x : ℤ). days_in (nat_abs x) 0) i ∙ above n f (subst (λ (x : ℤ). lt_z x (pos 0) ≡ false) i h))

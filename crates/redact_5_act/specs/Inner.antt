@@ -5,9 +5,9 @@ use Rattle.text.specs.Text.{Text, between}
 use Rattle.er7.specs.declared.separators.Separators.{Separators}
 use Rattle.er7_redact.specs.declared.action.Action.{Action as HeldAction}
 use Rattle.er7_redact.specs.Action.{Action, apply, room}
-use Rattle.message_model.specs.Value.{NULL, is_null, value, isWholeWord}
-use Rattle.run_model.specs.Redact.{Effect, stays, becomes, replaced, longestFound}
-use Rattle.redact_5_act.specs.Known.{value_at, actionAt, known_at, knownFrom}
+use Rattle.message_model.specs.Value.{NULL, is_null, value, is_whole_word}
+use Rattle.run_model.specs.Redact.{Effect, stays, becomes, replaced, longest_found}
+use Rattle.redact_5_act.specs.Known.{value_at, action_at, known_at, known_from}
 use Rattle.redact_5_act.specs.declared.state.Counters.{Counters}
 use Rattle.refusal.specs.Limits.{TEXT_MAX}
 
@@ -16,12 +16,12 @@ unfoldable pub nulled : Text → Effect
 nulled t = cond (is_null t) stays (becomes NULL)
 
 -- a leaf that is neither empty nor null, under another action
-unfoldable pub onValue : ℕ → Separators → Action → Text → Effect
-onValue key s a t = replaced s (apply key a (value s t)) (value s t)
+unfoldable pub on_value : ℕ → Separators → Action → Text → Effect
+on_value key s a t = replaced s (apply key a (value s t)) (value s t)
 
 -- the value that stands in bytes from behind the learnt values to index `to`; that of a leaf of len bytes
-unfoldable pub decodedAt : Text → ℕ → Counters → Text
-decodedAt bytes to c = between bytes c.known_used to
+unfoldable pub decoded_at : Text → ℕ → Counters → Text
+decoded_at bytes to c = between bytes c.known_used to
 
 pub record Decoded (bytes : Text) (to len : ℕ) (c : Counters) : Type 0 where
   pub low : c.known_used ≤ to
@@ -33,12 +33,12 @@ pub record Fits (o : Option Text) (len : ℕ) (c : Counters) : Type 0 where
   pub few : c.size - len + room o ≤ TEXT_MAX
 
 -- the first byte of v is marked
-unfoldable pub firstMarked : List Bool → Text → Bool
-firstMarked starts v = get_or starts (get_or v 0 0) false
+unfoldable pub first_marked : List Bool → Text → Bool
+first_marked starts v = get_or starts (get_or v 0 0) false
 
 -- the value of row k has `least` bytes at least and is found in v
 unfoldable pub has_value : Text → Text → List ℕ → ℕ → ℕ → Bool
-has_value v bytes known least k = leb least (get_or known (k * 8 + 2) 0) && isWholeWord (value_at bytes known k) v
+has_value v bytes known least k = leb least (get_or known (k * 8 + 2) 0) && is_whole_word (value_at bytes known k) v
 
 -- r is the last of the first k rows of which that holds; or k
 pub record LastFound (v bytes : Text) (known : List ℕ) (least k r : ℕ) : Type 0 where
@@ -50,13 +50,13 @@ pub record LastFound (v bytes : Text) (known : List ℕ) (least k r : ℕ) : Typ
 -- r is the row of the value that is picked for v of the rows from row i on, or n if none is
 pub record RowFound (v bytes : Text) (known : List ℕ) (i n r : ℕ) : Type 0 where
   pub high : r ≤ n
-  pub found : r < n → (text : Text) → longestFound (knownFrom text bytes known i (n - i)) v ≡ some (known_at text bytes known r)
-  pub missed : r ≡ n → (text : Text) → longestFound (knownFrom text bytes known i (n - i)) v ≡ none
+  pub found : r < n → (text : Text) → longest_found (known_from text bytes known i (n - i)) v ≡ some (known_at text bytes known r)
+  pub missed : r ≡ n → (text : Text) → longest_found (known_from text bytes known i (n - i)) v ≡ none
 
 -- row n of a value with the hash h, of len bytes from index start on, with the action a, was written, which left known'; the rows before it are kept
 pub record RowPut (known : List ℕ) (n h start len : ℕ) (a : HeldAction) (known' : List ℕ) : Type 0 where
   pub hashed : get_or known' (n * 8) 0 ≡ h
   pub starts : get_or known' (n * 8 + 1) 0 ≡ start
   pub lasts : get_or known' (n * 8 + 2) 0 ≡ len
-  pub acts : actionAt known' n ≡ a
+  pub acts : action_at known' n ≡ a
   pub kept : (j : ℕ) → j < n * 8 → get_or known' j 0 ≡ get_or known j 0

@@ -11,6 +11,6 @@ unfoldable pub counted : List ℕ → Counters
 counted t = record { rows = get_or t 0 0; report_len = get_or t 1 0; size = get_or t 2 0; used = get_or t 3 0; known = get_or t 4 0; known_used = get_or t 5 0 }
 
 -- how far the run has come after a step, with those counters if it was made
-abbrev pub afterStep : Counters → Step → Done
-afterStep c Made = Going c
-afterStep c (Refused e) = Stopped e
+abbrev pub after_step : Counters → Step → Done
+after_step c Made = Going c
+after_step c (Refused e) = Stopped e

@@ -2,13 +2,13 @@
 ghost use Rattle.std.specs.Prelude.{◌≡◌, ◌+◌, ◌-◌, ◌≤◌, length};
 ghost use Rattle.std.proofs.Math.Option.{some};
 ghost use Rattle.text.specs.Text.{part};
-ghost use Rattle.er7_redact.specs.Action.{asAction, ActionHeld, written};
+ghost use Rattle.er7_redact.specs.Action.{as_action, ActionHeld, written};
 ghost use Rattle.er7_redact.specs.Action as Actions;
 ghost use Rattle.message_model.specs.Value.{NULL, encode};
 ghost use Rattle.run_model.specs.Redact.{becomes, replaced};
 ghost use Rattle.run_model.specs.Redact as Spec;
 ghost use Rattle.redact_5_act.specs.Act.{Acted, ActedBeside, ActRoom, LeafHeld};
-ghost use Rattle.redact_5_act.specs.Inner.{nulled, onValue, decodedAt, Decoded, Fits};
+ghost use Rattle.redact_5_act.specs.Inner.{nulled, on_value, decoded_at, Decoded, Fits};
 ghost use Rattle.refusal.specs.Limits.{TEXT_MAX};
 
 use super::state::{Counters, Setting, is_over};
@@ -81,8 +81,8 @@ fn put_value(
     bytes: &mut [u8; 65536],
     c: Counters,
 ) -> Effect
-    requires { ActionHeld text.now a × ActRoom len c × Decoded bytes.old to len c × Fits (Actions.apply on.key (asAction text.now a) (decodedAt bytes.old to c)) len c }
-    ensures { ActedBeside (replaced on.separators (some (written (Actions.apply on.key (asAction text.now a) (decodedAt bytes.old to c)))) (decodedAt bytes.old to c)) len c store.old store.new bytes.old bytes.new result }
+    requires { ActionHeld text.now a × ActRoom len c × Decoded bytes.old to len c × Fits (Actions.apply on.key (as_action text.now a) (decoded_at bytes.old to c)) len c }
+    ensures { ActedBeside (replaced on.separators (some (written (Actions.apply on.key (as_action text.now a) (decoded_at bytes.old to c)))) (decoded_at bytes.old to c)) len c store.old store.new bytes.old bytes.new result }
 {
     let from = c.known_used;
     let used = c.used;
@@ -107,7 +107,7 @@ fn put_applied(
     c: Counters,
 ) -> Effect
     requires { ActionHeld text.now a × ActRoom len c × Decoded bytes.old to len c }
-    ensures { ActedBeside (replaced on.separators (Actions.apply on.key (asAction text.now a) (decodedAt bytes.old to c)) (decodedAt bytes.old to c)) len c store.old store.new bytes.old bytes.new result }
+    ensures { ActedBeside (replaced on.separators (Actions.apply on.key (as_action text.now a) (decoded_at bytes.old to c)) (decoded_at bytes.old to c)) len c store.old store.new bytes.old bytes.new result }
 {
     let from = c.known_used;
     let value = &bytes[..];
@@ -147,7 +147,7 @@ fn act_value(
     c: Counters,
 ) -> Effect
     requires { ActionHeld text.now a × LeafHeld start len c }
-    ensures { ActedBeside (onValue on.key on.separators (asAction text.now a) (part store.old start len)) len c store.old store.new bytes.old bytes.new result }
+    ensures { ActedBeside (on_value on.key on.separators (as_action text.now a) (part store.old start len)) len c store.old store.new bytes.old bytes.new result }
 {
     let end = start + len;
     let all = &store[..];
@@ -168,7 +168,7 @@ pub fn act(
     c: Counters,
 ) -> Effect
     requires { ActionHeld text.now a × LeafHeld start len c }
-    ensures { ActedBeside (Spec.act on.key on.separators (asAction text.now a) (part store.old start len)) len c store.old store.new bytes.old bytes.new result }
+    ensures { ActedBeside (Spec.act on.key on.separators (as_action text.now a) (part store.old start len)) len c store.old store.new bytes.old bytes.new result }
 {
     if action::is_null_action(a) {
         return act_null(start, len, store, c);

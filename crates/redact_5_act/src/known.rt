@@ -1,12 +1,12 @@
 // The learnt values. Their bytes stand one behind the other in `bytes`, which has room for the value of a leaf behind them. `known` has a row of eight cells for each value: its hash, where its bytes start, how many they are, its action's kind and the two operands of it, none, none.
 ghost use Rattle.std.specs.Prelude.{◌≡◌, ◌+◌, ◌*◌, ◌≤◌, ◌<◌, length};
 ghost use Rattle.text.specs.Text.{Text, same, between};
-ghost use Rattle.message_model.specs.Value.{isWholeWord};
+ghost use Rattle.message_model.specs.Value.{is_whole_word};
 ghost use Rattle.er7_value.specs.Starts.{Starts};
 ghost use Rattle.run_model.specs.Redact as Spec;
 ghost use Rattle.er7_redact.specs.declared.action.Action.TheVariants as Held;
-ghost use Rattle.redact_5_act.specs.Known.{daysIn, actionOf, actionAt, value_at, hashOf, knownFrom, Slot, Slots, GoodKnown, learnValue, learnLeaf, Learns, Swept};
-ghost use Rattle.redact_5_act.specs.Inner.{firstMarked, has_value, RowFound, LastFound, RowPut};
+ghost use Rattle.redact_5_act.specs.Known.{days_in, action_of, action_at, value_at, hash_of, known_from, Slot, Slots, GoodKnown, learn_value, learn_leaf, Learns, Swept};
+ghost use Rattle.redact_5_act.specs.Inner.{first_marked, has_value, RowFound, LastFound, RowPut};
 ghost use Rattle.refusal.specs.Limits.{LEARNT_MAX, TEXT_MAX};
 
 use er7::separators::Separators;
@@ -37,7 +37,7 @@ pub struct Code {
 
 // The days of `shift` in two operands.
 fn days_in(x: usize, y: usize) -> i64
-    ensures { result ≡ daysIn x y }
+    ensures { result ≡ days_in x y }
 {
     let n = (x % 9223372036854775808) as i64;
     if y == 1 {
@@ -48,7 +48,7 @@ fn days_in(x: usize, y: usize) -> i64
 
 // The kind and the operands of `shift` with the days n.
 fn code_of_days(n: i64) -> Code
-    ensures { actionOf result.kind result.x result.y ≡ Held.Shift n }
+    ensures { action_of result.kind result.x result.y ≡ Held.Shift n }
 {
     if n < 0 {
         return Code {
@@ -66,7 +66,7 @@ fn code_of_days(n: i64) -> Code
 
 // The action of a kind with the operands x and y.
 pub fn action_of(kind: usize, x: usize, y: usize) -> Action
-    ensures { result ≡ actionOf kind x y }
+    ensures { result ≡ action_of kind x y }
 {
     match kind {
         1 => Action::Clear,
@@ -83,7 +83,7 @@ pub fn action_of(kind: usize, x: usize, y: usize) -> Action
 
 // The kind and the operands of an action.
 pub fn code_of(a: Action) -> Code
-    ensures { actionOf result.kind result.x result.y ≡ a }
+    ensures { action_of result.kind result.x result.y ≡ a }
 {
     match a {
         Action::Keep => Code {
@@ -133,7 +133,7 @@ pub fn code_of(a: Action) -> Code
 // The hash of the bytes from index i to index e.
 fn hash_of(bytes: &[u8; 65536], i: usize, e: usize) -> usize
     requires { (i ≤ e) × (e ≤ 65536) }
-    ensures { (result ≡ hashOf (between bytes.now i e)) × (e ≤ length bytes.now) }
+    ensures { (result ≡ hash_of (between bytes.now i e)) × (e ≤ length bytes.now) }
 {
     let all = &bytes[..];
     fold(OFFSET, &all[i..e]) as usize
@@ -148,7 +148,7 @@ fn is_value(
     known: &[usize; KNOWN_CELLS],
     k: usize,
 ) -> bool
-    requires { Slot bytes.now known.now k × (i ≤ e) × (e ≤ 65536) × (h ≡ hashOf (between bytes.now i e)) }
+    requires { Slot bytes.now known.now k × (i ≤ e) × (e ≤ 65536) × (h ≡ hash_of (between bytes.now i e)) }
     ensures { result ≡ same (between bytes.now i e) (value_at bytes.now known.now k) }
 {
     let row = k * 8;
@@ -169,7 +169,7 @@ fn may_have(
     k: usize,
 ) -> bool
     requires { Slot bytes.now known.now k }
-    ensures { result ≡ firstMarked starts.now (value_at bytes.now known.now k) }
+    ensures { result ≡ first_marked starts.now (value_at bytes.now known.now k) }
 {
     let start = known[k * 8 + 1];
     let all = &bytes[..];
@@ -180,7 +180,7 @@ fn may_have(
 // Whether the value of row k is a whole word of the bytes from index i to index e.
 fn has_word(bytes: &[u8; 65536], i: usize, e: usize, known: &[usize; KNOWN_CELLS], k: usize) -> bool
     requires { Slot bytes.now known.now k × (i ≤ e) × (e ≤ 65536) }
-    ensures { result ≡ isWholeWord (value_at bytes.now known.now k) (between bytes.now i e) }
+    ensures { result ≡ is_whole_word (value_at bytes.now known.now k) (between bytes.now i e) }
 {
     let row = k * 8;
     let start = known[row + 1];
@@ -192,7 +192,7 @@ fn has_word(bytes: &[u8; 65536], i: usize, e: usize, known: &[usize; KNOWN_CELLS
 // The action of row i.
 pub fn action_at(known: &[usize; KNOWN_CELLS], i: usize) -> Action
     requires { i < LEARNT_MAX }
-    ensures { result ≡ actionAt known.now i }
+    ensures { result ≡ action_at known.now i }
 {
     let row = i * 8;
     action_of(known[row + 3], known[row + 4], known[row + 5])
@@ -207,8 +207,8 @@ fn knows(
     known: &[usize; KNOWN_CELLS],
     n: usize,
 ) -> bool
-    requires { Slots bytes.now known.now n × (i ≤ e) × (e ≤ 65536) × (h ≡ hashOf (between bytes.now i e)) }
-    ensures { (text : Text) → result ≡ Spec.knows (between bytes.now i e) (knownFrom text bytes.now known.now 0 n) }
+    requires { Slots bytes.now known.now n × (i ≤ e) × (e ≤ 65536) × (h ≡ hash_of (between bytes.now i e)) }
+    ensures { (text : Text) → result ≡ Spec.knows (between bytes.now i e) (known_from text bytes.now known.now 0 n) }
 {
     let mut k = 0;
     while k < n {
@@ -333,7 +333,7 @@ fn learn(
     used: usize,
 ) -> Learnt
     requires { GoodKnown bytes.now known.old n used × (used + 3 ≤ e) × (e ≤ 65536) }
-    ensures { Learns (learnValue (between bytes.now used e) a) a bytes.now known.old n used bytes.now known.new result }
+    ensures { Learns (learn_value (between bytes.now used e) a) a bytes.now known.old n used bytes.now known.new result }
 {
     let h = hash_of(bytes, used, e);
     if knows(bytes, used, e, h, known, n) {
@@ -357,7 +357,7 @@ pub fn learn_leaf(
     used: usize,
 ) -> Learnt
     requires { GoodKnown bytes.old known.old n used × (length t.now ≤ TEXT_MAX) }
-    ensures { Learns (learnLeaf s t.now a) a bytes.old known.old n used bytes.new known.new result }
+    ensures { Learns (learn_leaf s t.now a) a bytes.old known.old n used bytes.new known.new result }
 {
     if action::is_keep(a) | (t.len() < 3) {
         return Learnt::Kept(n, used);

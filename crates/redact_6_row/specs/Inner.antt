@@ -4,8 +4,8 @@ use Rattle.er7.specs.declared.message.Place.{Place}
 use Rattle.er7.specs.declared.path.Path.{Path as HeldPath}
 
 -- the path of a row, whose name is the first three bytes of a text
-unfoldable pub leafPath : HeldLabel → Place → HeldPath
-leafPath g p = record {
+unfoldable pub leaf_path : HeldLabel → Place → HeldPath
+leaf_path g p = record {
   segment = 0;
   segment_len = 3;
   segment_occurrence = g.occurrence;

@@ -2,24 +2,24 @@
 use Rattle.std.specs.Prelude.{Bool, true, ◌&&◌}
 use Rattle.er7.specs.Path.{Path}
 use Rattle.er7.specs.declared.message.Place.{Place}
-use Rattle.run_model.specs.Redact.{fits, Reach, each-leaf, each-node, by_field, by-repetition, by-component, starts}
+use Rattle.run_model.specs.Redact.{fits, Reach, each_leaf, each_node, by_field, by-repetition, by-component, starts}
 use Rattle.redact_6_row.specs.declared.reach.Reach.{Reach as HeldReach}
 use Rattle.redact_6_row.specs.declared.reach.Reach.TheVariants as Held
 
 -- a path reaches the leaf at a place of a segment that it reaches into
-unfoldable pub reachesPlace : Path → Place → Bool
-reachesPlace w p =
+unfoldable pub reaches_place : Path → Place → Bool
+reaches_place w p =
     fits w.field p.field && fits w.repetition p.repetition && fits w.component p.component
     && fits w.subcomponent p.subcomponent
 
 -- the reach that an enum stands for
-unfoldable pub asReach : HeldReach → Reach
-asReach Held.EachLeaf = each-leaf
-asReach Held.EachField = each-node by_field
-asReach Held.EachRepetition = each-node by-repetition
-asReach Held.EachComponent = each-node by-component
+unfoldable pub as_reach : HeldReach → Reach
+as_reach Held.EachLeaf = each_leaf
+as_reach Held.EachField = each_node by_field
+as_reach Held.EachRepetition = each_node by-repetition
+as_reach Held.EachComponent = each_node by-component
 
 -- what a rule acts on begins here: a leaf, or a node
-unfoldable pub startsAt : Reach → Place → Bool
-startsAt each-leaf p = true
-startsAt (each-node d) p = starts d p
+unfoldable pub starts_at : Reach → Place → Bool
+starts_at each_leaf p = true
+starts_at (each_node d) p = starts d p

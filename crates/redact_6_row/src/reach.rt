@@ -1,12 +1,12 @@
 // Which leaves a rule reaches.
 ghost use Rattle.std.specs.Prelude.{◌≡◌};
 ghost use Rattle.text.specs.Text.{Text};
-ghost use Rattle.er7.specs.Path.{asPath};
-ghost use Rattle.er7_redact.specs.Policy.{asRule};
+ghost use Rattle.er7.specs.Path.{as_path};
+ghost use Rattle.er7_redact.specs.Policy.{as_rule};
 ghost use Rattle.message_model.specs.Message as Message;
-ghost use Rattle.run_model.specs.Redact.{fits, reach, each-node, depth};
-ghost use Rattle.er7_table.specs.Table.{asLabel};
-ghost use Rattle.redact_6_row.specs.Reach.{reachesPlace, asReach, startsAt};
+ghost use Rattle.run_model.specs.Redact.{fits, reach, each_node, depth};
+ghost use Rattle.er7_table.specs.Table.{as_label};
+ghost use Rattle.redact_6_row.specs.Reach.{reaches_place, as_reach, starts_at};
 
 use er7::message::{Label, Place};
 use er7::path::Path;
@@ -25,7 +25,7 @@ pub enum Reach {
 
 // Whether the leaf at p is neither MSH-1 nor MSH-2.
 pub fn touchable(g: Label, p: Place) -> bool
-    ensures { result ≡ Message.touchable (asLabel g) p }
+    ensures { result ≡ Message.touchable (as_label g) p }
 {
     if 2 < p.field {
         return true;
@@ -42,7 +42,7 @@ pub fn index_fits(wanted: u64, found: usize) -> bool
 
 // Whether a path reaches the leaf at p of a segment that it reaches into.
 pub fn reaches_place(path: Path, p: Place) -> bool
-    ensures { (t : Text) → result ≡ reachesPlace (asPath t path) p }
+    ensures { (t : Text) → result ≡ reaches_place (as_path t path) p }
 {
     index_fits(path.field, p.field)
         & index_fits(path.repetition, p.repetition)
@@ -52,7 +52,7 @@ pub fn reaches_place(path: Path, p: Place) -> bool
 
 // The nodes that a path names which stops above the subcomponent.
 fn node_of(path: Path) -> Reach
-    ensures { (t : Text) → asReach result ≡ each-node (depth (asPath t path)) }
+    ensures { (t : Text) → as_reach result ≡ each_node (depth (as_path t path)) }
 {
     if path.component != 0 {
         return Reach::EachComponent;
@@ -65,7 +65,7 @@ fn node_of(path: Path) -> Reach
 
 // Where a rule acts.
 pub fn reach_of(rule: Rule) -> Reach
-    ensures { (t : Text) → asReach result ≡ reach (asRule t rule) }
+    ensures { (t : Text) → as_reach result ≡ reach (as_rule t rule) }
 {
     let action = rule.action;
     let path = rule.path;
@@ -77,7 +77,7 @@ pub fn reach_of(rule: Rule) -> Reach
 
 // Whether a node's first leaf stands at p; every leaf is the first of itself.
 pub fn starts(reach: Reach, p: Place) -> bool
-    ensures { result ≡ startsAt (asReach reach) p }
+    ensures { result ≡ starts_at (as_reach reach) p }
 {
     match reach {
         Reach::EachLeaf => true,

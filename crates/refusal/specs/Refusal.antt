@@ -26,24 +26,24 @@ number NoSuchBuiltin = 14
 number BadDayCount = 15
 
 -- "message, payload or policy above 32,768 bytes"
-unfoldable pub tooLong : Text → Bool
-tooLong t = ltb INPUT_MAX (length t)
+unfoldable pub too_long : Text → Bool
+too_long t = ltb INPUT_MAX (length t)
 
 -- "0x09, 0x20 to 0x7E": what each of the three may hold
 unfoldable pub is_plain : ℕ → Bool
 is_plain x = eqb x 0x09 || leb 0x20 x && leb x 0x7e
 
-unfoldable pub beginsInLF : Text → Bool
-beginsInLF [] = false
-beginsInLF (x ∷ s) = eqb x 0x0a
+unfoldable pub begins_in_lf : Text → Bool
+begins_in_lf [] = false
+begins_in_lf (x ∷ s) = eqb x 0x0a
 
 -- "a byte other than 0x09, 0x20 to 0x7E, and: CR in a message; LF, or CR directly before LF, in a policy; CR and LF in a payload":
 -- whether x may stand before the text s
-unfoldable pub isAllowed : Input → ℕ → Text → Bool
-isAllowed Message x s = is_plain x || eqb x 0x0d
-isAllowed Policy x s = is_plain x || eqb x 0x0a || eqb x 0x0d && beginsInLF s
-isAllowed Payload x s = is_plain x || eqb x 0x0d || eqb x 0x0a
+unfoldable pub is_allowed : Input → ℕ → Text → Bool
+is_allowed Message x s = is_plain x || eqb x 0x0d
+is_allowed Policy x s = is_plain x || eqb x 0x0a || eqb x 0x0d && begins_in_lf s
+is_allowed Payload x s = is_plain x || eqb x 0x0d || eqb x 0x0a
 
-unfoldable pub noForeign : Input → Text → Bool
-noForeign i [] = true
-noForeign i (x ∷ s) = isAllowed i x s && noForeign i s
+unfoldable pub no_foreign : Input → Text → Bool
+no_foreign i [] = true
+no_foreign i (x ∷ s) = is_allowed i x s && no_foreign i s

@@ -1,6 +1,6 @@
 // What a caller hands over, and the bytes that each may hold.
 ghost use Rattle.std.specs.Prelude.{◌≡◌, ◌+◌, ◌≤◌, ◌<◌, length, drop, get_or};
-ghost use Rattle.refusal.specs.Refusal.{is_plain, beginsInLF, isAllowed, noForeign};
+ghost use Rattle.refusal.specs.Refusal.{is_plain, begins_in_lf, is_allowed, no_foreign};
 
 // A message, a policy or a payload.
 #[derive(Drop)]
@@ -20,7 +20,7 @@ fn is_plain(b: u8) -> bool
 // Whether an LF stands in text at index i.
 fn is_lf_at(text: &[u8], i: usize) -> bool
     requires { i ≤ length text.now }
-    ensures { result ≡ beginsInLF (drop i text.now) }
+    ensures { result ≡ begins_in_lf (drop i text.now) }
 {
     if i == text.len() {
         return false;
@@ -31,7 +31,7 @@ fn is_lf_at(text: &[u8], i: usize) -> bool
 // Whether the byte at index i may stand there.
 fn is_allowed_at(input: Input, text: &[u8], i: usize) -> bool
     requires { i < length text.now }
-    ensures { result ≡ isAllowed input (get_or text.now i 0) (drop (i + 1) text.now) }
+    ensures { result ≡ is_allowed input (get_or text.now i 0) (drop (i + 1) text.now) }
 {
     let b = text[i];
     match input {
@@ -43,7 +43,7 @@ fn is_allowed_at(input: Input, text: &[u8], i: usize) -> bool
 
 // Whether each byte may stand where it does.
 pub fn no_foreign(input: Input, text: &[u8]) -> bool
-    ensures { result ≡ noForeign input text.now }
+    ensures { result ≡ no_foreign input text.now }
 {
     let mut fine = true;
     let mut i = 0;

@@ -10,158 +10,158 @@ use Rattle.text.specs.Text.{Text}
 use Rattle.text.proofs.Laws.{clash}
 use Rattle.refusal.specs.declared.Refusal.{Refusal}
 use Rattle.refusal.specs.declared.Refusal.TheVariants.{ShortBuffer, TooLong, ForeignByte, TooMany, Withheld, NoSuchBuiltin}
-use Rattle.refusal.specs.Refusal.{number, tooLong, noForeign}
+use Rattle.refusal.specs.Refusal.{number, too_long, no_foreign}
 use Rattle.refusal.specs.declared.input.Input.TheVariants as Inputs
 use Rattle.refusal.specs.Limits.{RULES_MAX}
-use Rattle.message_model.specs.Message.{messageOf, messageFault, printMessage}
+use Rattle.message_model.specs.Message.{message_of, message_fault, print_message}
 use Rattle.policy_model.specs.Policy as Q
-use Rattle.policy_model.specs.Policy.{Policy, PolicyRead, read, readPolicy, Unrecognised, pass, refuse, apply}
-use Rattle.policy_model.specs.Builtin.{builtinText}
-use Rattle.policy_model.proofs.PolicyReadBack.{builtin-reads}
+use Rattle.policy_model.specs.Policy.{Policy, PolicyRead, read, read_policy, Unrecognised, pass, refuse, apply}
+use Rattle.policy_model.specs.Builtin.{builtin_text}
+use Rattle.policy_model.proofs.PolicyReadBack.{builtin_reads}
 use Rattle.run_model.specs.Redact.{redact}
-use Rattle.run_model.specs.Entries.{Answer, done, refused, Lent, LentReport, number_of, outcome, outcomeWithReport, isShort, withBuffers, withPolicy, withoutFault, reported, redactAnswer, printedPolicy, printAnswer, mergedAnswer, appendAnswer, builtinAnswer, payloadFault, unrecognised, payloadAnswer, redactOutcome, printOutcome, appendOutcome, builtinOutcome, payloadOutcome}
-use Rattle.run_model.specs.Table.{is, bufferRow, policyRow, withPolicyRow, messageRow, run_row, rowOfRedact, rowOfPrint, rowOfAppend, rowOfBuiltin, refuses, rowOfPayload, Exactly}
-use Rattle.run_model.proofs.Accepted.{number-positive}
-use Rattle.run_model.proofs.Judged.{Judges, or-false, or_left, or_right, and_none, policyRefusal, policy-judged, message-judged}
-use Rattle.run_model.proofs.Progress.{refusalIn, run-judged}
+use Rattle.run_model.specs.Entries.{Answer, done, refused, Lent, LentReport, number_of, outcome, outcome_with_report, is_short, with_buffers, with_policy, without_fault, reported, redact_answer, printed_policy, print_answer, merged_answer, append_answer, builtin_answer, payload_fault, unrecognised, payload_answer, redact_outcome, print_outcome, append_outcome, builtin_outcome, payload_outcome}
+use Rattle.run_model.specs.Table.{is, buffer_row, policy_row, with_policy_row, message_row, run_row, row_of_redact, row_of_print, row_of_append, row_of_builtin, refuses, row_of_payload, Exactly}
+use Rattle.run_model.proofs.Accepted.{number_positive}
+use Rattle.run_model.proofs.Judged.{Judges, or_false, or_left, or_right, and_none, policy_refusal, policy_judged, message_judged}
+use Rattle.run_model.proofs.Progress.{refusal_in, run_judged}
 
 -- ---- one part after another
 
 -- the first part is judged without refusal, then the second; or the first has one
-both-judged : (f g : Refusal → Bool) (o : Option Refusal) → Judges f none → Judges g o → Judges (λ e. f e || g e) o
-both-judged f g none h k = λ e. or-false (h e) (k e)
-both-judged f g (some e) h k = or_right (f e) k
+both_judged : (f g : Refusal → Bool) (o : Option Refusal) → Judges f none → Judges g o → Judges (λ e. f e || g e) o
+both_judged f g none h k = λ e. or_false (h e) (k e)
+both_judged f g (some e) h k = or_right (f e) k
 
-first-judged : (f g : Refusal → Bool) (e : Refusal) → Judges f (some e) → Judges (λ x. f x || g x) (some e)
-first-judged f g e h = or_left (g e) h
+first_judged : (f g : Refusal → Bool) (e : Refusal) → Judges f (some e) → Judges (λ x. f x || g x) (some e)
+first_judged f g e h = or_left (g e) h
 
-buffers-judged : {X : Type 0} (b : Lent) (g : Refusal → Bool) (a : Answer X) → Judges g (refusalIn a) → Judges (λ e. bufferRow b e || g e) (refusalIn (withBuffers b a))
-unfolding withBuffers bufferRow
-buffers-judged b g a h = go (isShort b) refl
+buffers_judged : {X : Type 0} (b : Lent) (g : Refusal → Bool) (a : Answer X) → Judges g (refusal_in a) → Judges (λ e. buffer_row b e || g e) (refusal_in (with_buffers b a))
+unfolding with_buffers buffer_row
+buffers_judged b g a h = go (is_short b) refl
   where
-    go : (c : Bool) → isShort b ≡ c → Judges (λ e. is e ShortBuffer && isShort b || g e) (refusalIn (cond c (refused ShortBuffer 0) a))
-    go true e = unfold refusalIn is number in rw e
-    go false e = both-judged (λ x. is x ShortBuffer && isShort b) g (refusalIn a) (λ x. and_none (is x ShortBuffer) e) h
+    go : (c : Bool) → is_short b ≡ c → Judges (λ e. is e ShortBuffer && is_short b || g e) (refusal_in (cond c (refused ShortBuffer 0) a))
+    go true e = unfold refusal_in is number in rw e
+    go false e = both_judged (λ x. is x ShortBuffer && is_short b) g (refusal_in a) (λ x. and_none (is x ShortBuffer) e) h
 
 -- a policy and what is done with it: g says what rows apply then
-policy-then : {X : Type 0} (s : Text) (g : PolicyRead → Refusal → Bool) (f : Policy → Answer X) → ((P : Policy) → readPolicy s ≡ read P → Judges (g (read P)) (refusalIn (f P)))
-    → Judges (λ e. policyRow s e || g (readPolicy s) e) (refusalIn (withPolicy (readPolicy s) f))
-unfolding policyRefusal withPolicy refusalIn
-policy-then s g f h = go (readPolicy s) refl (policy-judged s)
+policy_then : {X : Type 0} (s : Text) (g : PolicyRead → Refusal → Bool) (f : Policy → Answer X) → ((P : Policy) → read_policy s ≡ read P → Judges (g (read P)) (refusal_in (f P)))
+    → Judges (λ e. policy_row s e || g (read_policy s) e) (refusal_in (with_policy (read_policy s) f))
+unfolding policy_refusal with_policy refusal_in
+policy_then s g f h = go (read_policy s) refl (policy_judged s)
   where
-    go : (r : PolicyRead) → readPolicy s ≡ r → Judges (policyRow s) (policyRefusal r) → Judges (λ e. policyRow s e || g r e) (refusalIn (withPolicy r f))
-    go (read P) q k = both-judged (policyRow s) (g (read P)) (refusalIn (f P)) k (h P q)
+    go : (r : PolicyRead) → read_policy s ≡ r → Judges (policy_row s) (policy_refusal r) → Judges (λ e. policy_row s e || g r e) (refusal_in (with_policy r f))
+    go (read P) q k = both_judged (policy_row s) (g (read P)) (refusal_in (f P)) k (h P q)
     go (Q.refused e n) q k = or_left (g (Q.refused e n) e) k
 
-fault-then : {X : Type 0} (f g : Refusal → Bool) (o : Option Refusal) (a : Answer X) → Judges f o → Judges g (refusalIn a)
-    → Judges (λ e. f e || g e) (refusalIn (withoutFault o a))
-unfolding withoutFault refusalIn
-fault-then f g none a h k = both-judged f g (refusalIn a) h k
-fault-then f g (some e) a h k = or_left (g e) h
+fault_then : {X : Type 0} (f g : Refusal → Bool) (o : Option Refusal) (a : Answer X) → Judges f o → Judges g (refusal_in a)
+    → Judges (λ e. f e || g e) (refusal_in (without_fault o a))
+unfolding without_fault refusal_in
+fault_then f g none a h k = both_judged f g (refusal_in a) h k
+fault_then f g (some e) a h k = or_left (g e) h
 
 -- ---- the five entries
 
-redact-judged : (b : LentReport) (m p : Text) (key : ℕ) → Judges (rowOfRedact b m p key) (refusalIn (redactAnswer b m p key))
-unfolding rowOfRedact redactAnswer withPolicyRow
-redact-judged b m p key =
-    buffers-judged b.buffers _ _
-    (policy-then p (λ r e. messageRow m e || withPolicyRow r λ P. run_row (length (printMessage (messageOf m))) b.report key P (messageOf m) e)
-    (λ P. withoutFault (messageFault m) (reported b.report (redact key P (messageOf m))))
-    (λ P q. fault-then (messageRow m) (run_row (length (printMessage (messageOf m))) b.report key P (messageOf m)) (messageFault m) (reported b.report (redact key P (messageOf m))) (message-judged m)
-    (unfold redact in run-judged (length (printMessage (messageOf m))) key P (messageOf m) b.report)))
+redact_judged : (b : LentReport) (m p : Text) (key : ℕ) → Judges (row_of_redact b m p key) (refusal_in (redact_answer b m p key))
+unfolding row_of_redact redact_answer with_policy_row
+redact_judged b m p key =
+    buffers_judged b.buffers _ _
+    (policy_then p (λ r e. message_row m e || with_policy_row r λ P. run_row (length (print_message (message_of m))) b.report key P (message_of m) e)
+    (λ P. without_fault (message_fault m) (reported b.report (redact key P (message_of m))))
+    (λ P q. fault_then (message_row m) (run_row (length (print_message (message_of m))) b.report key P (message_of m)) (message_fault m) (reported b.report (redact key P (message_of m))) (message_judged m)
+    (unfold redact in run_judged (length (print_message (message_of m))) key P (message_of m) b.report)))
 
-print-judged : (b : Lent) (p : Text) → Judges (rowOfPrint b p) (refusalIn (printAnswer b p))
-unfolding rowOfPrint printAnswer
-print-judged b p = buffers-judged b (policyRow p) _ (go (readPolicy p) (policy-judged p))
+print_judged : (b : Lent) (p : Text) → Judges (row_of_print b p) (refusal_in (print_answer b p))
+unfolding row_of_print print_answer
+print_judged b p = buffers_judged b (policy_row p) _ (go (read_policy p) (policy_judged p))
   where
-    go : (r : PolicyRead) → Judges (policyRow p) (policyRefusal r) → Judges (policyRow p) (refusalIn (withPolicy r printedPolicy))
-    go (read P) k = unfold policyRefusal withPolicy printedPolicy refusalIn in k
-    go (Q.refused e n) k = unfold policyRefusal withPolicy refusalIn in k
+    go : (r : PolicyRead) → Judges (policy_row p) (policy_refusal r) → Judges (policy_row p) (refusal_in (with_policy r printed_policy))
+    go (read P) k = unfold policy_refusal with_policy printed_policy refusal_in in k
+    go (Q.refused e n) k = unfold policy_refusal with_policy refusal_in in k
 
 -- the merged rules are too many, or not
-merged-judged : (P R : Policy) → Judges (λ e. is e TooMany && ltb RULES_MAX (length P.rules + length R.rules)) (refusalIn (mergedAnswer P R))
-unfolding mergedAnswer printedPolicy
-merged-judged P R = go (ltb RULES_MAX (length P.rules + length R.rules)) refl
+merged_judged : (P R : Policy) → Judges (λ e. is e TooMany && ltb RULES_MAX (length P.rules + length R.rules)) (refusal_in (merged_answer P R))
+unfolding merged_answer printed_policy
+merged_judged P R = go (ltb RULES_MAX (length P.rules + length R.rules)) refl
   where
     go : (c : Bool) → ltb RULES_MAX (length P.rules + length R.rules) ≡ c
-        → Judges (λ e. is e TooMany && ltb RULES_MAX (length P.rules + length R.rules)) (refusalIn (cond c (refused TooMany 0) (printedPolicy (Q.merged P R))))
-    go true e = unfold refusalIn is number in e
-    go false e = unfold refusalIn printedPolicy in λ x. and_none (is x TooMany) e
+        → Judges (λ e. is e TooMany && ltb RULES_MAX (length P.rules + length R.rules)) (refusal_in (cond c (refused TooMany 0) (printed_policy (Q.merged P R))))
+    go true e = unfold refusal_in is number in e
+    go false e = unfold refusal_in printed_policy in λ x. and_none (is x TooMany) e
 
-append-judged : (b : Lent) (p q : Text) → Judges (rowOfAppend b p q) (refusalIn (appendAnswer b p q))
-unfolding rowOfAppend appendAnswer withPolicyRow
-append-judged b p q =
-    buffers-judged b _ _
-    (policy-then p
-    (λ r e. policyRow q e || withPolicyRow r λ P. withPolicyRow (readPolicy q) λ R. is e TooMany && ltb RULES_MAX (length P.rules + length R.rules))
-    (λ P. withPolicy (readPolicy q) λ R. mergedAnswer P R)
-    (λ P _. policy-then q (λ r e. withPolicyRow r λ R. is e TooMany && ltb RULES_MAX (length P.rules + length R.rules)) (λ R. mergedAnswer P R)
-    (λ R _. merged-judged P R)))
+append_judged : (b : Lent) (p q : Text) → Judges (row_of_append b p q) (refusal_in (append_answer b p q))
+unfolding row_of_append append_answer with_policy_row
+append_judged b p q =
+    buffers_judged b _ _
+    (policy_then p
+    (λ r e. policy_row q e || with_policy_row r λ P. with_policy_row (read_policy q) λ R. is e TooMany && ltb RULES_MAX (length P.rules + length R.rules))
+    (λ P. with_policy (read_policy q) λ R. merged_answer P R)
+    (λ P _. policy_then q (λ r e. with_policy_row r λ R. is e TooMany && ltb RULES_MAX (length P.rules + length R.rules)) (λ R. merged_answer P R)
+    (λ R _. merged_judged P R)))
 
 -- a built-in always reads
-builtin-judged : (b : Lent) (n : ℕ) → Judges (rowOfBuiltin b n) (refusalIn (builtinAnswer b n))
-unfolding rowOfBuiltin builtinAnswer
-builtin-judged b n = buffers-judged b (λ e. is e NoSuchBuiltin && ltb 3 n) _ (go (ltb 3 n) refl)
+builtin_judged : (b : Lent) (n : ℕ) → Judges (row_of_builtin b n) (refusal_in (builtin_answer b n))
+unfolding row_of_builtin builtin_answer
+builtin_judged b n = buffers_judged b (λ e. is e NoSuchBuiltin && ltb 3 n) _ (go (ltb 3 n) refl)
   where
     go : (c : Bool) → ltb 3 n ≡ c
-        → Judges (λ e. is e NoSuchBuiltin && ltb 3 n) (refusalIn (cond c (refused NoSuchBuiltin 0) (withPolicy (readPolicy (builtinText n)) printedPolicy)))
-    go true e = unfold refusalIn is number in e
-    go false e = unfold withPolicy printedPolicy refusalIn in rw (builtin-reads n (ltb-false 3 n e)).1 (λ x. and_none (is x NoSuchBuiltin) e)
+        → Judges (λ e. is e NoSuchBuiltin && ltb 3 n) (refusal_in (cond c (refused NoSuchBuiltin 0) (with_policy (read_policy (builtin_text n)) printed_policy)))
+    go true e = unfold refusal_in is number in e
+    go false e = unfold with_policy printed_policy refusal_in in rw (builtin_reads n (ltb-false 3 n e)).1 (λ x. and_none (is x NoSuchBuiltin) e)
 
-payload-fault-judged : (t : Text) → Judges (λ e. is e TooLong && tooLong t || is e ForeignByte && not (noForeign Inputs.Payload t)) (payloadFault t)
-unfolding payloadFault
-payload-fault-judged t = go (tooLong t) (noForeign Inputs.Payload t) refl refl
+payload_fault_judged : (t : Text) → Judges (λ e. is e TooLong && too_long t || is e ForeignByte && not (no_foreign Inputs.Payload t)) (payload_fault t)
+unfolding payload_fault
+payload_fault_judged t = go (too_long t) (no_foreign Inputs.Payload t) refl refl
   where
-    go : (a c : Bool) → tooLong t ≡ a → noForeign Inputs.Payload t ≡ c
-        → Judges (λ e. is e TooLong && tooLong t || is e ForeignByte && not (noForeign Inputs.Payload t)) (cond a (some TooLong) (cond (not c) (some ForeignByte) none))
+    go : (a c : Bool) → too_long t ≡ a → no_foreign Inputs.Payload t ≡ c
+        → Judges (λ e. is e TooLong && too_long t || is e ForeignByte && not (no_foreign Inputs.Payload t)) (cond a (some TooLong) (cond (not c) (some ForeignByte) none))
     go true c e f = unfold is number in rw e
     go false false e f = unfold is number in rw f
-    go false true e f = λ x. or-false (and_none (is x TooLong) e) (and_none (is x ForeignByte) (rw f))
+    go false true e f = λ x. or_false (and_none (is x TooLong) e) (and_none (is x ForeignByte) (rw f))
 
-withheld-judged : (key : ℕ) (u : Unrecognised) (t : Text) → Judges (λ e. is e Withheld && refuses u) (refusalIn (unrecognised key u t))
-unfolding unrecognised refusalIn refuses
-withheld-judged key pass t = λ x. and_none (is x Withheld) refl
-withheld-judged key refuse t = unfold is number in refl
-withheld-judged key (apply a) t = λ x. and_none (is x Withheld) refl
+withheld_judged : (key : ℕ) (u : Unrecognised) (t : Text) → Judges (λ e. is e Withheld && refuses u) (refusal_in (unrecognised key u t))
+unfolding unrecognised refusal_in refuses
+withheld_judged key pass t = λ x. and_none (is x Withheld) refl
+withheld_judged key refuse t = unfold is number in refl
+withheld_judged key (apply a) t = λ x. and_none (is x Withheld) refl
 
-payload-judged : (b : Lent) (t p : Text) (key : ℕ) → Judges (rowOfPayload b t p) (refusalIn (payloadAnswer b t p key))
-unfolding rowOfPayload payloadAnswer withPolicyRow
-payload-judged b t p key =
-    buffers-judged b _ _
-    (policy-then p
-    (λ r e. (is e TooLong && tooLong t || is e ForeignByte && not (noForeign Inputs.Payload t)) || withPolicyRow r λ P. is e Withheld && refuses P.unrecognised)
-    (λ P. withoutFault (payloadFault t) (unrecognised key P.unrecognised t))
-    (λ P _. fault-then (λ e. is e TooLong && tooLong t || is e ForeignByte && not (noForeign Inputs.Payload t)) (λ e. is e Withheld && refuses P.unrecognised)
-    (payloadFault t) (unrecognised key P.unrecognised t) (payload-fault-judged t) (withheld-judged key P.unrecognised t)))
+payload_judged : (b : Lent) (t p : Text) (key : ℕ) → Judges (row_of_payload b t p) (refusal_in (payload_answer b t p key))
+unfolding row_of_payload payload_answer with_policy_row
+payload_judged b t p key =
+    buffers_judged b _ _
+    (policy_then p
+    (λ r e. (is e TooLong && too_long t || is e ForeignByte && not (no_foreign Inputs.Payload t)) || with_policy_row r λ P. is e Withheld && refuses P.unrecognised)
+    (λ P. without_fault (payload_fault t) (unrecognised key P.unrecognised t))
+    (λ P _. fault_then (λ e. is e TooLong && too_long t || is e ForeignByte && not (no_foreign Inputs.Payload t)) (λ e. is e Withheld && refuses P.unrecognised)
+    (payload_fault t) (unrecognised key P.unrecognised t) (payload_fault_judged t) (withheld_judged key P.unrecognised t)))
 
 -- ---- "Success is 0, exactly when no row applies"
 
-exactly : {X : Type 0} (row : Refusal → Bool) (a : Answer X) → Judges row (refusalIn a) → Exactly row (number_of a)
-unfolding refusalIn
-exactly row (done x) h = record { accepts = λ k. refl; no_row = λ k. h; row-applies = λ k. absurd (k refl) }
+exactly : {X : Type 0} (row : Refusal → Bool) (a : Answer X) → Judges row (refusal_in a) → Exactly row (number_of a)
+unfolding refusal_in
+exactly row (done x) h = record { accepts = λ k. refl; no_row = λ k. h; row_applies = λ k. absurd (k refl) }
 exactly row (refused e n) h =
     record {
       accepts = λ k. clash (sym h ∙ k e);
-      no_row = λ k. absurd (number-positive e k);
-      row-applies = λ k. (e, refl, h);
+      no_row = λ k. absurd (number_positive e k);
+      row_applies = λ k. (e, refl, h);
     }
 
-pub redact-exactly : (b : LentReport) (message policy : Text) (key : ℕ) → Exactly (rowOfRedact b message policy key) (redactOutcome b message policy key).number
-unfolding redactOutcome outcomeWithReport
-redact-exactly b m p key = exactly _ (redactAnswer b m p key) (redact-judged b m p key)
+pub redact_exactly : (b : LentReport) (message policy : Text) (key : ℕ) → Exactly (row_of_redact b message policy key) (redact_outcome b message policy key).number
+unfolding redact_outcome outcome_with_report
+redact_exactly b m p key = exactly _ (redact_answer b m p key) (redact_judged b m p key)
 
-pub print-exactly : (b : Lent) (policy : Text) → Exactly (rowOfPrint b policy) (printOutcome b policy).number
-unfolding printOutcome outcome
-print-exactly b p = exactly _ (printAnswer b p) (print-judged b p)
+pub print_exactly : (b : Lent) (policy : Text) → Exactly (row_of_print b policy) (print_outcome b policy).number
+unfolding print_outcome outcome
+print_exactly b p = exactly _ (print_answer b p) (print_judged b p)
 
-pub append-exactly : (b : Lent) (first second : Text) → Exactly (rowOfAppend b first second) (appendOutcome b first second).number
-unfolding appendOutcome outcome
-append-exactly b p q = exactly _ (appendAnswer b p q) (append-judged b p q)
+pub append_exactly : (b : Lent) (first second : Text) → Exactly (row_of_append b first second) (append_outcome b first second).number
+unfolding append_outcome outcome
+append_exactly b p q = exactly _ (append_answer b p q) (append_judged b p q)
 
-pub builtin-exactly : (b : Lent) (n : ℕ) → Exactly (rowOfBuiltin b n) (builtinOutcome b n).number
-unfolding builtinOutcome outcome
-builtin-exactly b n = exactly _ (builtinAnswer b n) (builtin-judged b n)
+pub builtin_exactly : (b : Lent) (n : ℕ) → Exactly (row_of_builtin b n) (builtin_outcome b n).number
+unfolding builtin_outcome outcome
+builtin_exactly b n = exactly _ (builtin_answer b n) (builtin_judged b n)
 
-pub payload-exactly : (b : Lent) (payload policy : Text) (key : ℕ) → Exactly (rowOfPayload b payload policy) (payloadOutcome b payload policy key).number
-unfolding payloadOutcome outcome
-payload-exactly b t p key = exactly _ (payloadAnswer b t p key) (payload-judged b t p key)
+pub payload_exactly : (b : Lent) (payload policy : Text) (key : ℕ) → Exactly (row_of_payload b payload policy) (payload_outcome b payload policy key).number
+unfolding payload_outcome outcome
+payload_exactly b t p key = exactly _ (payload_answer b t p key) (payload_judged b t p key)

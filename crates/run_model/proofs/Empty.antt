@@ -7,40 +7,40 @@ use native.Mathlib.Omega.{arith}
 use borrow.Author.Tests.{le-ltb}
 use Rattle.er7.specs.declared.separators.Separators.{Separators}
 use Rattle.er7_redact.specs.Policy.{Rule}
-use Rattle.refusal.specs.Refusal.{tooLong, noForeign}
-use Rattle.message_model.specs.Message.{messageLines, isOpened, first_of, segmentsFault, messageFault, messageOf, printSegments}
-use Rattle.message_model.proofs.Faultless.{no-segments}
+use Rattle.refusal.specs.Refusal.{too_long, no_foreign}
+use Rattle.message_model.specs.Message.{message_lines, is_opened, head_of, segments_fault, message_fault, message_of, print_segments}
+use Rattle.message_model.proofs.Faultless.{no_segments}
 use Rattle.policy_model.specs.Policy as Q
-use Rattle.policy_model.specs.Policy.{Policy, PolicyRead, read, readPolicy}
+use Rattle.policy_model.specs.Policy.{Policy, PolicyRead, read, read_policy}
 use Rattle.run_model.specs.Redact as R
-use Rattle.run_model.specs.Redact.{afterEvents, afterRule, afterRules, rulesEvents, beforeSweep, eventsBeforeSweep, progressBeforeSweep, redactedAs, swept, redactFrom, redact, printRows}
-use Rattle.run_model.specs.Entries.{done, withBuffers, withPolicy, withoutFault, reported, redactAnswer}
+use Rattle.run_model.specs.Redact.{after_events, after_rule, after_rules, rules_events, before_sweep, events_before_sweep, progress_before_sweep, redacted_as, swept, redact_from, redact, print_rows}
+use Rattle.run_model.specs.Entries.{done, with_buffers, with_policy, without_fault, reported, redact_answer}
 use Rattle.run_model.specs.Empty.{EmptyMessage}
 
 module _ (key : ℕ) (s : Separators) where
-  none_after : (rs : List Rule) → afterRules key s rs [] ≡ []
-  unfolding afterRules afterRule
+  none_after : (rs : List Rule) → after_rules key s rs [] ≡ []
+  unfolding after_rules after_rule
   none_after [] = refl
   none_after (r ∷ rs) = none_after rs
 
-  none_said : (rs : List Rule) → rulesEvents key s rs [] ≡ []
-  unfolding rulesEvents afterRule
+  none_said : (rs : List Rule) → rules_events key s rs [] ≡ []
+  unfolding rules_events after_rule
   none_said [] = refl
   none_said (r ∷ rs) = none_said rs
 
-no-fault : messageFault [] ≡ none
-unfolding messageFault messageLines isOpened first_of segmentsFault tooLong noForeign
-no-fault = refl
+no_fault : message_fault [] ≡ none
+unfolding message_fault message_lines is_opened head_of segments_fault too_long no_foreign
+no_fault = refl
 
-nothing-changes : (key : ℕ) (P : Policy) → redact key P (messageOf []) ≡ R.done [] []
-unfolding redact redactFrom swept redactedAs progressBeforeSweep eventsBeforeSweep beforeSweep afterEvents printSegments
-nothing-changes key P = rw (no-segments, none_after key (messageOf []).separators P.rules, none_said key (messageOf []).separators P.rules)
+nothing_changes : (key : ℕ) (P : Policy) → redact key P (message_of []) ≡ R.done [] []
+unfolding redact redact_from swept redacted_as progress_before_sweep events_before_sweep before_sweep after_events print_segments
+nothing_changes key P = rw (no_segments, none_after key (message_of []).separators P.rules, none_said key (message_of []).separators P.rules)
 
-pub empty-message : EmptyMessage
-unfolding redactAnswer
-empty-message b policy key = ap (withBuffers b.buffers) (by-policy (readPolicy policy))
+pub empty_message : EmptyMessage
+unfolding redact_answer
+empty_message b policy key = ap (with_buffers b.buffers) (by_policy (read_policy policy))
   where
-    by-policy : (p : PolicyRead)
-        → withPolicy p (λ P. withoutFault (messageFault []) (reported b.report (redact key P (messageOf [])))) ≡ withPolicy p (λ P. done (record { text = []; rows = [] }))
-    by-policy (read P) = unfold withPolicy withoutFault reported printRows in rw (no-fault, nothing-changes key P, le-ltb b.report 0 (omega arith))
-    by-policy (Q.refused e n) = unfold withPolicy in refl
+    by_policy : (p : PolicyRead)
+        → with_policy p (λ P. without_fault (message_fault []) (reported b.report (redact key P (message_of [])))) ≡ with_policy p (λ P. done (record { text = []; rows = [] }))
+    by_policy (read P) = unfold with_policy without_fault reported print_rows in rw (no_fault, nothing_changes key P, le-ltb b.report 0 (omega arith))
+    by_policy (Q.refused e n) = unfold with_policy in refl

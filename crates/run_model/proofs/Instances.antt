@@ -15,10 +15,10 @@ use Rattle.er7_redact.specs.Action as A
 use Rattle.er7_redact.specs.Action.{Action, keep, clear, null, mask}
 use Rattle.er7_redact.specs.Policy.{Rule, accept, reject}
 use Rattle.er7.specs.declared.message.Place.{Place}
-use Rattle.message_model.specs.Message.{Leaf, leaf, Label, segment, messageOf}
-use Rattle.policy_model.specs.Policy.{Policy, read, readPolicy, refuse}
-use Rattle.run_model.specs.Redact.{Row, learn, change, beforeSweep}
-use Rattle.run_model.specs.Entries.{LentReport, redactOutcome}
+use Rattle.message_model.specs.Message.{Leaf, leaf, Label, segment, message_of}
+use Rattle.policy_model.specs.Policy.{Policy, read, read_policy, refuse}
+use Rattle.run_model.specs.Redact.{Row, learn, change, before_sweep}
+use Rattle.run_model.specs.Entries.{LentReport, redact_outcome}
 use Rattle.run_model.specs.Demand.{NothingToSweep, NotInSegments, AlikeLeaves, AlikeSegments, TwoCalls, Settled, Unswept, SameResult}
 use Rattle.run_model.proofs.Computes.{computes}
 use Rattle.refusal.specs.Limits.{TEXT_MAX}
@@ -26,40 +26,40 @@ use Rattle.refusal.specs.Limits.{TEXT_MAX}
 abbrev lent : ℕ → LentReport
 lent n = record { buffers = record { output = TEXT_MAX; scratch = TEXT_MAX }; report = n }
 
-abbrev firstField : Action → Rule
-firstField a = record { path = record { segment = bytes "PID"; occurrence = 0; field = 1; repetition = 0; component = 0; subcomponent = 0 }; action = a }
+abbrev first_field : Action → Rule
+first_field a = record { path = record { segment = bytes "PID"; occurrence = 0; field = 1; repetition = 0; component = 0; subcomponent = 0 }; action = a }
 
-abbrev secondComponent : Rule
-secondComponent = record { path = record { segment = bytes "PID"; occurrence = 0; field = 1; repetition = 0; component = 2; subcomponent = 0 }; action = mask 0x2a }
+abbrev second_component : Rule
+second_component = record { path = record { segment = bytes "PID"; occurrence = 0; field = 1; repetition = 0; component = 2; subcomponent = 0 }; action = mask 0x2a }
 
 -- two segments with two leaves each: what holds where there is nothing to show in the first
-only-behind : (D S : ℕ → ℕ → Type 0) → (D 1 0 → S 1 0) → (D 1 1 → S 1 1) → (D 0 0 → ⊥) → (D 0 1 → ⊥) → ((j : ℕ) → D 0 (suc (suc j)) → ⊥)
+only_behind : (D S : ℕ → ℕ → Type 0) → (D 1 0 → S 1 0) → (D 1 1 → S 1 1) → (D 0 0 → ⊥) → (D 0 1 → ⊥) → ((j : ℕ) → D 0 (suc (suc j)) → ⊥)
     → ((j : ℕ) → D 1 (suc (suc j)) → ⊥) → ((i j : ℕ) → D (suc (suc i)) j → ⊥) → (i j : ℕ) → D i j → S i j
-only-behind D S h k a b c e f zero zero x = absurd (a x)
-only-behind D S h k a b c e f zero (suc zero) x = absurd (b x)
-only-behind D S h k a b c e f zero (suc (suc j)) x = absurd (c j x)
-only-behind D S h k a b c e f (suc zero) zero x = h x
-only-behind D S h k a b c e f (suc zero) (suc zero) x = k x
-only-behind D S h k a b c e f (suc zero) (suc (suc j)) x = absurd (e j x)
-only-behind D S h k a b c e f (suc (suc i)) j x = absurd (f i j x)
+only_behind D S h k a b c e f zero zero x = absurd (a x)
+only_behind D S h k a b c e f zero (suc zero) x = absurd (b x)
+only_behind D S h k a b c e f zero (suc (suc j)) x = absurd (c j x)
+only_behind D S h k a b c e f (suc zero) zero x = h x
+only_behind D S h k a b c e f (suc zero) (suc zero) x = k x
+only_behind D S h k a b c e f (suc zero) (suc (suc j)) x = absurd (e j x)
+only_behind D S h k a b c e f (suc (suc i)) j x = absurd (f i j x)
 
 abbrev Is : Text → Option Text → Type 0
 Is t none = ⊥
 Is t (some u) = T (same t u)
 
 -- a header of two leaves, and behind it a segment
-behind-header : {rs : List Rule} {g h : Label} {p q : Place} {t u : Text} {xs ys : List Leaf} → AlikeLeaves rs h xs ys
+behind_header : {rs : List Rule} {g h : Label} {p q : Place} {t u : Text} {xs ys : List Leaf} → AlikeLeaves rs h xs ys
     → AlikeSegments rs (segment g (leaf p false (some t) ∷ leaf q false (some u) ∷ []) ∷ segment h xs ∷ [])
     (segment g (leaf p false (some t) ∷ leaf q false (some u) ∷ []) ∷ segment h ys ∷ [])
-behind-header {g = g} {h = h} {p = p} {q = q} {t = t} {u = u} w =
+behind_header {g = g} {h = h} {p = p} {q = q} {t = t} {u = u} w =
     AlikeSegments.next g (AlikeLeaves.next p t t (λ _. refl) (AlikeLeaves.next q u u (λ _. refl) AlikeLeaves.end))
     (AlikeSegments.next h w AlikeSegments.end)
 
 -- two calls under the key 0
-two-calls : {policy : Text} {P : Policy} {m n : Text} {b c : LentReport} → readPolicy policy ≡ read P → (redactOutcome b m policy 0).number ≡ 0
-    → (redactOutcome c n policy 0).number ≡ 0 → (messageOf m).lastCR ≡ (messageOf n).lastCR
-    → AlikeSegments P.rules (messageOf m).segments (messageOf n).segments → TwoCalls policy 0 P m n b c
-two-calls r f s l g = record { policy-reads = r; first-accepted = f; second-accepted = s; alike = record { lastCR = l; segments = g } }
+two_calls : {policy : Text} {P : Policy} {m n : Text} {b c : LentReport} → read_policy policy ≡ read P → (redact_outcome b m policy 0).number ≡ 0
+    → (redact_outcome c n policy 0).number ≡ 0 → (message_of m).last_cr ≡ (message_of n).last_cr
+    → AlikeSegments P.rules (message_of m).segments (message_of n).segments → TwoCalls policy 0 P m n b c
+two_calls r f s l g = record { policy_reads = r; first_accepted = f; second_accepted = s; alike = record { last_cr = l; segments = g } }
 
 -- ---- an instance: a first field of abc and one of xyz, masked, before a field that has neither
 
@@ -68,7 +68,7 @@ masks = bytes "PID-1 mask"
 
 -- what `masks` reads as
 abbrev P : Policy
-P = record { rules = firstField (mask 0x2a) ∷ []; posture = accept; unrecognised = refuse; sweep = true }
+P = record { rules = first_field (mask 0x2a) ∷ []; posture = accept; unrecognised = refuse; sweep = true }
 
 abbrev first : Text
 first = bytes "MSH|^~\\&\rPID|abc|hello"
@@ -78,12 +78,12 @@ second = bytes "MSH|^~\\&\rPID|xyz|hello"
 
 calls : TwoCalls masks 0 P first second (lent 65536) (lent 23)
 unfolding computes
-calls = two-calls refl refl refl refl (behind-header (AlikeLeaves.next _ _ _ (λ h. absurd h) (AlikeLeaves.next _ _ _ (λ h. refl) AlikeLeaves.end)))
+calls = two_calls refl refl refl refl (behind_header (AlikeLeaves.next _ _ _ (λ h. absurd h) (AlikeLeaves.next _ _ _ (λ h. refl) AlikeLeaves.end)))
 
-settled : Settled 0 P (messageOf first) (messageOf second)
+settled : Settled 0 P (message_of first) (message_of second)
 unfolding computes
 settled =
-    only-behind _ _ (λ d. (inl (λ e. subst (Is (bytes "abc")) e tt), inl (λ e. subst (Is (bytes "xyz")) e tt), refl)) (λ d. absurd (d refl))
+    only_behind _ _ (λ d. (inl (λ e. subst (Is (bytes "abc")) e tt), inl (λ e. subst (Is (bytes "xyz")) e tt), refl)) (λ d. absurd (d refl))
     (λ d. d refl) (λ d. d refl) (λ j d. d refl) (λ j d. d refl) (λ i j d. d refl)
 
 no_change : (v : Text) (a : Action) (ρ : Row) (m n : ℕ) → Memᴰ (learn v a) (change ρ m n ∷ []) → ⊥
@@ -94,25 +94,25 @@ only : (t v : Text) (b a : Action) (ρ : Row) (m n : ℕ) → Memᴰ (learn v a)
 only t v b a ρ m n h = ⊎_elim (λ e. cc) (λ k. absurd (no_change v a ρ m n k)) (Memᴰ.cases_cons h)
 
 -- nothing is found in what the rule leaves: MSH-1 and MSH-2 may not be touched, the first field is named, the second has no word of it
-quiet-first : NothingToSweep 0 P (messageOf first)
+quiet_first : NothingToSweep 0 P (message_of first)
 unfolding computes
-quiet-first v l =
-    subst (λ (u : Text). NotInSegments (messageOf first).separators u (beforeSweep 0 (messageOf first).separators P (messageOf first).segments))
+quiet_first v l =
+    subst (λ (u : Text). NotInSegments (message_of first).separators u (before_sweep 0 (message_of first).separators P (message_of first).segments))
     (only (bytes "abc") v _ l.0 _ _ _ l.1)
     (((λ h. absurd h), ((λ h. absurd h), tt)), (((λ h. absurd h), ((λ h. tt), tt)), tt))
 
-quiet-second : NothingToSweep 0 P (messageOf second)
+quiet_second : NothingToSweep 0 P (message_of second)
 unfolding computes
-quiet-second v l =
-    subst (λ (u : Text). NotInSegments (messageOf second).separators u (beforeSweep 0 (messageOf second).separators P (messageOf second).segments))
+quiet_second v l =
+    subst (λ (u : Text). NotInSegments (message_of second).separators u (before_sweep 0 (message_of second).separators P (message_of second).segments))
     (only (bytes "xyz") v _ l.0 _ _ _ l.1)
     (((λ h. absurd h), ((λ h. absurd h), tt)), (((λ h. absurd h), ((λ h. tt), tt)), tt))
 
 pub premises-met :
-    TwoCalls masks 0 P first second (lent 65536) (lent 23) × Settled 0 P (messageOf first) (messageOf second)
-    × Unswept 0 P (messageOf first) (messageOf second) × (first ≡ second → ⊥)
+    TwoCalls masks 0 P first second (lent 65536) (lent 23) × Settled 0 P (message_of first) (message_of second)
+    × Unswept 0 P (message_of first) (message_of second) × (first ≡ second → ⊥)
 unfolding computes
-premises-met = (calls, settled, inr (quiet-first, quiet-second), λ e. absurd (subst (λ (t : Text). T (same first t)) e tt))
+premises-met = (calls, settled, inr (quiet_first, quiet_second), λ e. absurd (subst (λ (t : Text). T (same first t)) e tt))
 
 -- ---- an instance: `""^x` and `a^x`, kept and then collapsed. Keep is passed by, and the null that was there counts as changed
 
@@ -120,7 +120,7 @@ abbrev collapsing : Text
 collapsing = bytes "PID-1 keep\nPID-1 null\nreject mask"
 
 abbrev K : Policy
-K = record { rules = firstField keep ∷ firstField null ∷ []; posture = reject (mask 0x2a); unrecognised = refuse; sweep = true }
+K = record { rules = first_field keep ∷ first_field null ∷ []; posture = reject (mask 0x2a); unrecognised = refuse; sweep = true }
 
 abbrev nulled : Text
 nulled = bytes "MSH|^~\\&\rPID|\"\"^x"
@@ -129,12 +129,12 @@ abbrev full : Text
 full = bytes "MSH|^~\\&\rPID|a^x"
 
 pub keep-passed :
-    TwoCalls collapsing 0 K nulled full (lent 65536) (lent 65536) × Settled 0 K (messageOf nulled) (messageOf full)
-    × Unswept 0 K (messageOf nulled) (messageOf full) × (nulled ≡ full → ⊥)
+    TwoCalls collapsing 0 K nulled full (lent 65536) (lent 65536) × Settled 0 K (message_of nulled) (message_of full)
+    × Unswept 0 K (message_of nulled) (message_of full) × (nulled ≡ full → ⊥)
 unfolding computes
 keep-passed = (
-  two-calls refl refl refl refl (behind-header (AlikeLeaves.next _ _ _ (λ h. absurd h) (AlikeLeaves.next _ _ _ (λ h. absurd h) AlikeLeaves.end))),
-  only-behind _ _ (λ d. (inr tt, inr tt, refl)) (λ d. absurd (d refl)) (λ d. d refl) (λ d. d refl) (λ j d. d refl) (λ j d. d refl) (λ i j d. d refl),
+  two_calls refl refl refl refl (behind_header (AlikeLeaves.next _ _ _ (λ h. absurd h) (AlikeLeaves.next _ _ _ (λ h. absurd h) AlikeLeaves.end))),
+  only_behind _ _ (λ d. (inr tt, inr tt, refl)) (λ d. absurd (d refl)) (λ d. d refl) (λ d. d refl) (λ j d. d refl) (λ j d. d refl) (λ i j d. d refl),
   inr ((λ v l. absurd (no_change v l.0 _ _ _ l.1)), (λ v l. absurd (no_change v l.0 _ _ _ l.1))),
   λ e. absurd (subst (λ (t : Text). T (same nulled t)) e tt),
 )
@@ -145,18 +145,18 @@ abbrev vanishes : Text
 vanishes = bytes "PID-1 null\nPID-1.2 mask"
 
 abbrev C : Policy
-C = record { rules = firstField null ∷ secondComponent ∷ []; posture = accept; unrecognised = refuse; sweep = true }
+C = record { rules = first_field null ∷ second_component ∷ []; posture = accept; unrecognised = refuse; sweep = true }
 
 abbrev other : Text
 other = bytes "MSH|^~\\&\rPID|b^y"
 
 pub vanished-covered :
-    TwoCalls vanishes 0 C full other (lent 65536) (lent 65536) × Settled 0 C (messageOf full) (messageOf other)
-    × Unswept 0 C (messageOf full) (messageOf other) × (full ≡ other → ⊥)
+    TwoCalls vanishes 0 C full other (lent 65536) (lent 65536) × Settled 0 C (message_of full) (message_of other)
+    × Unswept 0 C (message_of full) (message_of other) × (full ≡ other → ⊥)
 unfolding computes
 vanished-covered = (
-  two-calls refl refl refl refl (behind-header (AlikeLeaves.next _ _ _ (λ h. absurd h) (AlikeLeaves.next _ _ _ (λ h. absurd h) AlikeLeaves.end))),
-  only-behind _ _ (λ d. (inr tt, inr tt, refl)) (λ d. (inr tt, inr tt, refl)) (λ d. d refl) (λ d. d refl) (λ j d. d refl) (λ j d. d refl) (λ i j d. d refl),
+  two_calls refl refl refl refl (behind_header (AlikeLeaves.next _ _ _ (λ h. absurd h) (AlikeLeaves.next _ _ _ (λ h. absurd h) AlikeLeaves.end))),
+  only_behind _ _ (λ d. (inr tt, inr tt, refl)) (λ d. (inr tt, inr tt, refl)) (λ d. d refl) (λ d. d refl) (λ j d. d refl) (λ j d. d refl) (λ i j d. d refl),
   inr ((λ v l. absurd (no_change v l.0 _ _ _ l.1)), (λ v l. absurd (no_change v l.0 _ _ _ l.1))),
   λ e. absurd (subst (λ (t : Text). T (same full t)) e tt),
 )
@@ -167,7 +167,7 @@ abbrev shortens : Text
 shortens = bytes "PID-1 first 3\nPID-1 clear\nknown-values off"
 
 abbrev Q : Policy
-Q = record { rules = firstField (A.first 3) ∷ firstField clear ∷ []; posture = accept; unrecognised = refuse; sweep = false }
+Q = record { rules = first_field (A.first 3) ∷ first_field clear ∷ []; posture = accept; unrecognised = refuse; sweep = false }
 
 abbrev three : Text
 three = bytes "MSH|^~\\&\rPID|abc"
@@ -176,11 +176,11 @@ abbrev four : Text
 four = bytes "MSH|^~\\&\rPID|abcd"
 
 pub settled-needed :
-    TwoCalls shortens 0 Q three four (lent 65536) (lent 65536) × Unswept 0 Q (messageOf three) (messageOf four)
-    × (SameResult (redactOutcome (lent 65536) three shortens 0) (redactOutcome (lent 65536) four shortens 0) → ⊥)
+    TwoCalls shortens 0 Q three four (lent 65536) (lent 65536) × Unswept 0 Q (message_of three) (message_of four)
+    × (SameResult (redact_outcome (lent 65536) three shortens 0) (redact_outcome (lent 65536) four shortens 0) → ⊥)
 unfolding computes
 settled-needed = (
-  two-calls refl refl refl refl (behind-header (AlikeLeaves.next _ _ _ (λ h. absurd h) AlikeLeaves.end)),
+  two_calls refl refl refl refl (behind_header (AlikeLeaves.next _ _ _ (λ h. absurd h) AlikeLeaves.end)),
   inl tt,
   λ h. let e : ◌≡◌ {A = ℕ} 1 2 = h.rows in omega arith,
 )
@@ -194,12 +194,12 @@ abbrev unswept : Text
 unswept = bytes "MSH|^~\\&\rPID|xyz|abc"
 
 pub unswept-needed :
-    TwoCalls masks 0 P swept unswept (lent 65536) (lent 65536) × Settled 0 P (messageOf swept) (messageOf unswept)
-    × (SameResult (redactOutcome (lent 65536) swept masks 0) (redactOutcome (lent 65536) unswept masks 0) → ⊥)
+    TwoCalls masks 0 P swept unswept (lent 65536) (lent 65536) × Settled 0 P (message_of swept) (message_of unswept)
+    × (SameResult (redact_outcome (lent 65536) swept masks 0) (redact_outcome (lent 65536) unswept masks 0) → ⊥)
 unfolding computes
 unswept-needed = (
-  two-calls refl refl refl refl (behind-header (AlikeLeaves.next _ _ _ (λ h. absurd h) (AlikeLeaves.next _ _ _ (λ h. refl) AlikeLeaves.end))),
-  only-behind _ _ (λ d. (inl (λ e. subst (Is (bytes "abc")) e tt), inl (λ e. subst (Is (bytes "xyz")) e tt), refl)) (λ d. absurd (d refl))
+  two_calls refl refl refl refl (behind_header (AlikeLeaves.next _ _ _ (λ h. absurd h) (AlikeLeaves.next _ _ _ (λ h. refl) AlikeLeaves.end))),
+  only_behind _ _ (λ d. (inl (λ e. subst (Is (bytes "abc")) e tt), inl (λ e. subst (Is (bytes "xyz")) e tt), refl)) (λ d. absurd (d refl))
       (λ d. d refl) (λ d. d refl) (λ j d. d refl) (λ j d. d refl) (λ i j d. d refl),
   λ h. let e : ◌≡◌ {A = ℕ} 2 1 = h.rows in omega arith,
 )

@@ -6,15 +6,15 @@ use Rattle.text.specs.Text.{Text}
 use Rattle.er7_redact.specs.Action as A
 use Rattle.refusal.specs.declared.Refusal.{Refusal}
 use Rattle.refusal.specs.declared.Refusal.TheVariants.{ShortBuffer, TooLong, ForeignByte, TooMany, ReportTooLong, Withheld, NoSuchBuiltin}
-use Rattle.refusal.specs.Refusal.{number, tooLong, noForeign}
+use Rattle.refusal.specs.Refusal.{number, too_long, no_foreign}
 use Rattle.refusal.specs.declared.input.Input.TheVariants as Inputs
 use Rattle.refusal.specs.Limits.{RULES_MAX, TEXT_MAX}
-use Rattle.message_model.specs.Message.{messageOf, messageFault}
+use Rattle.message_model.specs.Message.{message_of, message_fault}
 use Rattle.policy_model.specs.Policy as Q
-use Rattle.policy_model.specs.Policy.{Policy, PolicyRead, read, readPolicy, Unrecognised, pass, refuse, apply, merged, printPolicy}
-use Rattle.policy_model.specs.Builtin.{builtinText}
+use Rattle.policy_model.specs.Policy.{Policy, PolicyRead, read, read_policy, Unrecognised, pass, refuse, apply, merged, print_policy}
+use Rattle.policy_model.specs.Builtin.{builtin_text}
 use Rattle.run_model.specs.Redact as R
-use Rattle.run_model.specs.Redact.{Row, Redacted, redact, printRows}
+use Rattle.run_model.specs.Redact.{Row, Redacted, redact, print_rows}
 
 -- ---- answers and outcomes
 
@@ -41,7 +41,7 @@ pub record LentReport : Type 0 where
 pub record Outcome : Type 0 where
   pub number : ℕ
   pub line : ℕ
-  pub textLength : ℕ
+  pub text_length : ℕ
   pub output : Text
   pub scratch : Text
 
@@ -49,8 +49,8 @@ pub record Outcome : Type 0 where
 pub record RedactOutcome : Type 0 where
   pub number : ℕ
   pub line : ℕ
-  pub textLength : ℕ
-  pub reportLength : ℕ
+  pub text_length : ℕ
+  pub report_length : ℕ
   pub rows : ℕ
   pub output : Text
   pub report : Text
@@ -74,118 +74,118 @@ abbrev pub text_of : Answer Text → Text
 text_of (done t) = t
 text_of (refused e n) = []
 
-abbrev pub redactionOf : Answer Redaction → Redaction
-redactionOf (done d) = d
-redactionOf (refused e n) = record { text = []; rows = [] }
+abbrev pub redaction_of : Answer Redaction → Redaction
+redaction_of (done d) = d
+redaction_of (refused e n) = record { text = []; rows = [] }
 
 -- "Success zeroes the scratch and the bytes behind text and report"; "Any refusal zeroes output, report and scratch whole, with
 -- lengths and rows 0"
 unfoldable pub outcome : Lent → Answer Text → Outcome
 outcome b a =
-    record { number = number_of a; line = line_of a; textLength = length (text_of a); output = filled (text_of a) b.output; scratch = filled [] b.scratch }
+    record { number = number_of a; line = line_of a; text_length = length (text_of a); output = filled (text_of a) b.output; scratch = filled [] b.scratch }
 
-unfoldable pub outcomeWithReport : LentReport → Answer Redaction → RedactOutcome
-outcomeWithReport b a =
-    let d = redactionOf a in
+unfoldable pub outcome_with_report : LentReport → Answer Redaction → RedactOutcome
+outcome_with_report b a =
+    let d = redaction_of a in
     record {
       number = number_of a;
       line = line_of a;
-      textLength = length d.text;
-      reportLength = length (printRows d.rows);
+      text_length = length d.text;
+      report_length = length (print_rows d.rows);
       rows = length d.rows;
       output = filled d.text b.buffers.output;
-      report = filled (printRows d.rows) b.report;
+      report = filled (print_rows d.rows) b.report;
       scratch = filled [] b.buffers.scratch;
     }
 
 -- "Text and report are what output and report hold up to their lengths"
-abbrev pub textLeft : Outcome → Text
-textLeft o = take o.textLength o.output
+abbrev pub text_left : Outcome → Text
+text_left o = take o.text_length o.output
 
 -- ---- what every entry judges first, and the parts of an order
 
 -- "output or scratch below 49,152 bytes"
-unfoldable pub isShort : Lent → Bool
-isShort b = ltb b.output TEXT_MAX || ltb b.scratch TEXT_MAX
+unfoldable pub is_short : Lent → Bool
+is_short b = ltb b.output TEXT_MAX || ltb b.scratch TEXT_MAX
 
-unfoldable pub withBuffers : {X : Type 0} → Lent → Answer X → Answer X
-withBuffers b a = cond (isShort b) (refused ShortBuffer 0) a
+unfoldable pub with_buffers : {X : Type 0} → Lent → Answer X → Answer X
+with_buffers b a = cond (is_short b) (refused ShortBuffer 0) a
 
 -- a policy's refusal comes with its line
-unfoldable pub withPolicy : {X : Type 0} → PolicyRead → (Policy → Answer X) → Answer X
-withPolicy (read P) f = f P
-withPolicy (Q.refused e n) f = refused e n
+unfoldable pub with_policy : {X : Type 0} → PolicyRead → (Policy → Answer X) → Answer X
+with_policy (read P) f = f P
+with_policy (Q.refused e n) f = refused e n
 
-unfoldable pub withoutFault : {X : Type 0} → Option Refusal → Answer X → Answer X
-withoutFault none a = a
-withoutFault (some e) a = refused e 0
+unfoldable pub without_fault : {X : Type 0} → Option Refusal → Answer X → Answer X
+without_fault none a = a
+without_fault (some e) a = refused e 0
 
 -- ---- redact
 
 -- "report longer than its buffer": "12 last"
 unfoldable pub reported : ℕ → Redacted → Answer Redaction
-reported n (R.done t ρs) = cond (ltb n (length (printRows ρs))) (refused ReportTooLong 0) (done (record { text = t; rows = ρs }))
+reported n (R.done t ρs) = cond (ltb n (length (print_rows ρs))) (refused ReportTooLong 0) (done (record { text = t; rows = ρs }))
 reported n (R.refused e) = refused e 0
 
-unfoldable pub redactAnswer : LentReport → Text → Text → ℕ → Answer Redaction
-redactAnswer b message policy key =
-    withBuffers b.buffers
-    (withPolicy (readPolicy policy) λ P. withoutFault (messageFault message) (reported b.report (redact key P (messageOf message))))
+unfoldable pub redact_answer : LentReport → Text → Text → ℕ → Answer Redaction
+redact_answer b message policy key =
+    with_buffers b.buffers
+    (with_policy (read_policy policy) λ P. without_fault (message_fault message) (reported b.report (redact key P (message_of message))))
 
 -- ---- print, append and built-in: "write the printed form of the policy read, merged or named"
 
-unfoldable pub printedPolicy : Policy → Answer Text
-printedPolicy P = done (printPolicy P)
+unfoldable pub printed_policy : Policy → Answer Text
+printed_policy P = done (print_policy P)
 
-unfoldable pub printAnswer : Lent → Text → Answer Text
-printAnswer b policy = withBuffers b (withPolicy (readPolicy policy) printedPolicy)
+unfoldable pub print_answer : Lent → Text → Answer Text
+print_answer b policy = with_buffers b (with_policy (read_policy policy) printed_policy)
 
 -- "each policy whole ..; the merged rule count"
-unfoldable pub mergedAnswer : Policy → Policy → Answer Text
-mergedAnswer P Q = cond (ltb RULES_MAX (length P.rules + length Q.rules)) (refused TooMany 0) (printedPolicy (merged P Q))
+unfoldable pub merged_answer : Policy → Policy → Answer Text
+merged_answer P Q = cond (ltb RULES_MAX (length P.rules + length Q.rules)) (refused TooMany 0) (printed_policy (merged P Q))
 
-unfoldable pub appendAnswer : Lent → Text → Text → Answer Text
-appendAnswer b first second =
-    withBuffers b (withPolicy (readPolicy first) λ P. withPolicy (readPolicy second) λ Q. mergedAnswer P Q)
+unfoldable pub append_answer : Lent → Text → Text → Answer Text
+append_answer b first second =
+    with_buffers b (with_policy (read_policy first) λ P. with_policy (read_policy second) λ Q. merged_answer P Q)
 
 -- "number above 3"
-unfoldable pub builtinAnswer : Lent → ℕ → Answer Text
-builtinAnswer b n = withBuffers b (cond (ltb 3 n) (refused NoSuchBuiltin 0) (withPolicy (readPolicy (builtinText n)) printedPolicy))
+unfoldable pub builtin_answer : Lent → ℕ → Answer Text
+builtin_answer b n = with_buffers b (cond (ltb 3 n) (refused NoSuchBuiltin 0) (with_policy (read_policy (builtin_text n)) printed_policy))
 
 -- ---- payload: "the payload (2, 3, 13)"
 
-unfoldable pub payloadFault : Text → Option Refusal
-payloadFault t = cond (tooLong t) (some TooLong) (cond (not (noForeign Inputs.Payload t)) (some ForeignByte) none)
+unfoldable pub payload_fault : Text → Option Refusal
+payload_fault t = cond (too_long t) (some TooLong) (cond (not (no_foreign Inputs.Payload t)) (some ForeignByte) none)
 
 -- the text that an action writes, or the payload where it writes none
-unfoldable pub writtenOr : Text → Option Text → Text
-writtenOr t none = t
-writtenOr t (some w) = w
+unfoldable pub written_or : Text → Option Text → Text
+written_or t none = t
+written_or t (some w) = w
 
 -- "payload under refuse"
 unfoldable pub unrecognised : ℕ → Unrecognised → Text → Answer Text
 unrecognised key pass t = done t
 unrecognised key refuse t = refused Withheld 0
-unrecognised key (apply a) t = done (writtenOr t (A.apply key a t))
+unrecognised key (apply a) t = done (written_or t (A.apply key a t))
 
-unfoldable pub payloadAnswer : Lent → Text → Text → ℕ → Answer Text
-payloadAnswer b payload policy key =
-    withBuffers b
-    (withPolicy (readPolicy policy) λ P. withoutFault (payloadFault payload) (unrecognised key P.unrecognised payload))
+unfoldable pub payload_answer : Lent → Text → Text → ℕ → Answer Text
+payload_answer b payload policy key =
+    with_buffers b
+    (with_policy (read_policy policy) λ P. without_fault (payload_fault payload) (unrecognised key P.unrecognised payload))
 
 -- ---- the outcomes of the five entries
 
-unfoldable pub redactOutcome : LentReport → Text → Text → ℕ → RedactOutcome
-redactOutcome b message policy key = outcomeWithReport b (redactAnswer b message policy key)
+unfoldable pub redact_outcome : LentReport → Text → Text → ℕ → RedactOutcome
+redact_outcome b message policy key = outcome_with_report b (redact_answer b message policy key)
 
-unfoldable pub printOutcome : Lent → Text → Outcome
-printOutcome b policy = outcome b (printAnswer b policy)
+unfoldable pub print_outcome : Lent → Text → Outcome
+print_outcome b policy = outcome b (print_answer b policy)
 
-unfoldable pub appendOutcome : Lent → Text → Text → Outcome
-appendOutcome b first second = outcome b (appendAnswer b first second)
+unfoldable pub append_outcome : Lent → Text → Text → Outcome
+append_outcome b first second = outcome b (append_answer b first second)
 
-unfoldable pub builtinOutcome : Lent → ℕ → Outcome
-builtinOutcome b n = outcome b (builtinAnswer b n)
+unfoldable pub builtin_outcome : Lent → ℕ → Outcome
+builtin_outcome b n = outcome b (builtin_answer b n)
 
-unfoldable pub payloadOutcome : Lent → Text → Text → ℕ → Outcome
-payloadOutcome b payload policy key = outcome b (payloadAnswer b payload policy key)
+unfoldable pub payload_outcome : Lent → Text → Text → ℕ → Outcome
+payload_outcome b payload policy key = outcome b (payload_answer b payload policy key)

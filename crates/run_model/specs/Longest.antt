@@ -2,7 +2,7 @@
 use Rattle.std.specs.Prelude.{◌≡◌, true, false, List, [], ◌∷◌, ◌++◌, ◌≤◌, ◌<◌, length}
 use Rattle.std.proofs.Math.Option.{Option, none, some}
 use Rattle.text.specs.Text.{Text}
-use Rattle.message_model.specs.Value.{isWholeWord}
+use Rattle.message_model.specs.Value.{is_whole_word}
 use Rattle.run_model.specs.Redact.{Known}
 
 -- every one of the learnt values is as Q says
@@ -16,11 +16,11 @@ pub record Longest (k : Known) (ks : List Known) (v : Text) : Type 0 where
   pub earlier : List Known
   pub later : List Known
   pub place : ks ≡ earlier ++ k ∷ later
-  pub found : isWholeWord k.value v ≡ true
-  pub none-longer : AllKnown (λ w. isWholeWord w v ≡ true → length w ≤ length k.value) earlier
-  pub none-as-long : AllKnown (λ w. isWholeWord w v ≡ true → length w < length k.value) later
+  pub found : is_whole_word k.value v ≡ true
+  pub none_longer : AllKnown (λ w. is_whole_word w v ≡ true → length w ≤ length k.value) earlier
+  pub none_as_long : AllKnown (λ w. is_whole_word w v ≡ true → length w < length k.value) later
 
 -- .. or none is found
 abbrev pub Picked : Option Known → List Known → Text → Type 0
-Picked none ks v = AllKnown (λ w. isWholeWord w v ≡ false) ks
+Picked none ks v = AllKnown (λ w. is_whole_word w v ≡ false) ks
 Picked (some k) ks v = Longest k ks v

@@ -3,17 +3,17 @@
 use Rattle.std.specs.Prelude.{Bool, true, false, not, cond, ◌&&◌, ◌||◌, List, [], ◌∷◌, ◌++◌, ℕ, ◌+◌, ◌-◌, length, eqb, leb, ltb}
 use Rattle.std.proofs.Math.Option.{Option, none, some}
 use Rattle.text.specs.Text.{Text, same}
-use Rattle.text.specs.Characters.{charCount, lowerText}
-use Rattle.er7.specs.Path.{Path, printPath}
+use Rattle.text.specs.Characters.{char_count, lower_text}
+use Rattle.er7.specs.Path.{Path, print_path}
 use Rattle.er7.specs.declared.message.Place.{Place}
 use Rattle.er7.specs.declared.separators.Separators.{Separators}
-use Rattle.er7_redact.specs.Action.{Action, isKeep, isNullAction, printAction, apply}
+use Rattle.er7_redact.specs.Action.{Action, is_keep, is_null_action, print_action, apply}
 use Rattle.er7_redact.specs.Policy.{Rule, Posture, accept, reject}
 use Rattle.refusal.specs.declared.Refusal.{Refusal}
 use Rattle.refusal.specs.declared.Refusal.TheVariants.{TooMuchLearnt, MessageTooLong}
 use Rattle.refusal.specs.Limits.{LEARNT_BYTES_MAX, LEARNT_MAX, TEXT_MAX}
-use Rattle.message_model.specs.Message.{Leaf, leaf, Label, Segment, segment, Message, touchable, printSegments, printMessage}
-use Rattle.message_model.specs.Value.{NULL, is_null, isEmptyOrNull, value, encode, isWholeWord}
+use Rattle.message_model.specs.Message.{Leaf, leaf, Label, Segment, segment, Message, touchable, print_segments, print_message}
+use Rattle.message_model.specs.Value.{NULL, is_null, is_empty_or_null, value, encode, is_whole_word}
 use Rattle.policy_model.specs.Policy.{Policy}
 
 -- ---- which leaves a rule reaches
@@ -37,18 +37,18 @@ pub data Depth : Type 0 where
   by_field by-repetition by-component : Depth
 
 pub data Reach : Type 0 where
-  each-leaf : Reach
-  each-node : Depth → Reach
+  each_leaf : Reach
+  each_node : Depth → Reach
 
 unfoldable pub depth : Path → Depth
 depth w = cond (eqb w.component 0) (cond (eqb w.repetition 0) by_field by-repetition) by-component
 
 unfoldable pub reach : Rule → Reach
-reach r = cond (isNullAction r.action && eqb r.path.subcomponent 0) (each-node (depth r.path)) each-leaf
+reach r = cond (is_null_action r.action && eqb r.path.subcomponent 0) (each_node (depth r.path)) each_leaf
 
-unfoldable pub isNode : Reach → Bool
-isNode each-leaf = false
-isNode (each-node d) = true
+unfoldable pub is_node : Reach → Bool
+is_node each_leaf = false
+is_node (each_node d) = true
 
 -- a node's first leaf stands here
 unfoldable pub starts : Depth → Place → Bool
@@ -57,10 +57,10 @@ starts by-repetition p = eqb p.component 1 && eqb p.subcomponent 1
 starts by-component p = eqb p.subcomponent 1
 
 -- the texts of a node's leaves behind its first, among the leaves `xs` that follow it: up to the next node's first
-unfoldable pub restOfNode : Depth → List Leaf → List Text
-restOfNode d [] = []
-restOfNode d (leaf p n none ∷ xs) = restOfNode d xs
-restOfNode d (leaf p n (some t) ∷ xs) = let more = restOfNode d xs in cond (starts d p) [] (t ∷ more)
+unfoldable pub rest_of_node : Depth → List Leaf → List Text
+rest_of_node d [] = []
+rest_of_node d (leaf p n none ∷ xs) = rest_of_node d xs
+rest_of_node d (leaf p n (some t) ∷ xs) = let more = rest_of_node d xs in cond (starts d p) [] (t ∷ more)
 
 -- ---- what becomes of a leaf
 
@@ -86,12 +86,12 @@ replaced s (some w) v = cond (same w v) stays (becomes (encode s w))
 -- an action on one leaf: "Empty and null leaves are skipped, except that null writes an empty one"
 unfoldable pub act : ℕ → Separators → Action → Text → Effect
 act key s a t =
-    cond (isNullAction a) (cond (is_null t) stays (becomes NULL))
-    (cond (isEmptyOrNull t) stays (replaced s (apply key a (value s t)) (value s t)))
+    cond (is_null_action a) (cond (is_null t) stays (becomes NULL))
+    (cond (is_empty_or_null t) stays (replaced s (apply key a (value s t)) (value s t)))
 
-abbrev pub isNil : {X : Type 0} → List X → Bool
-isNil [] = true
-isNil (x ∷ xs) = false
+abbrev pub is_nil : {X : Type 0} → List X → Bool
+is_nil [] = true
+is_nil (x ∷ xs) = false
 
 -- "by one null leaf `""`"; "a node that is already that is left". Of a node the first leaf stays and the others vanish
 unfoldable pub collapse : Bool → Bool → Effect
@@ -100,12 +100,12 @@ collapse true false = becomes NULL
 collapse false already = vanishes
 
 -- a leaf at p that a rule covers, with the text t, before the leaves xs
-unfoldable pub effectIn : ℕ → Separators → Reach → Action → Place → Text → List Leaf → Effect
-effectIn key s each-leaf a p t xs = act key s a t
-effectIn key s (each-node d) a p t xs = collapse (starts d p) (is_null t && isNil (restOfNode d xs))
+unfoldable pub effect_in : ℕ → Separators → Reach → Action → Place → Text → List Leaf → Effect
+effect_in key s each_leaf a p t xs = act key s a t
+effect_in key s (each_node d) a p t xs = collapse (starts d p) (is_null t && is_nil (rest_of_node d xs))
 
 unfoldable pub effect : ℕ → Separators → Rule → Label → Place → Text → List Leaf → Effect
-effect key s r g p t xs = cond (covers r g p) (effectIn key s (reach r) r.action p t xs) stays
+effect key s r g p t xs = cond (covers r g p) (effect_in key s (reach r) r.action p t xs) stays
 
 -- ---- what is said of a leaf
 
@@ -144,14 +144,14 @@ changing ρ went vanishes = []
 unfoldable pub learning : Separators → Action → List Text → List Event
 learning s a [] = []
 learning s a (t ∷ ts) =
-    let v = lowerText (value s t) in
+    let v = lower_text (value s t) in
     let more = learning s a ts in
-    cond (isKeep a || isEmptyOrNull t || ltb (charCount v) 3) more (learn v a ∷ more)
+    cond (is_keep a || is_empty_or_null t || ltb (char_count v) 3) more (learn v a ∷ more)
 
 -- the texts that a leaf answers for: its own; the whole node's, if it is a node's first; none, if it is another of a node
-unfoldable pub textsAt : Reach → Place → Text → List Leaf → List Text
-textsAt each-leaf p t xs = t ∷ []
-textsAt (each-node d) p t xs = cond (starts d p) (t ∷ restOfNode d xs) []
+unfoldable pub texts_at : Reach → Place → Text → List Leaf → List Text
+texts_at each_leaf p t xs = t ∷ []
+texts_at (each_node d) p t xs = cond (starts d p) (t ∷ rest_of_node d xs) []
 
 -- the bytes of texts, each with a delimiter
 unfoldable pub size : List Text → ℕ
@@ -160,54 +160,54 @@ size (t ∷ ts) = 1 + length t + size ts
 
 -- ---- the rules' passes, and the term "named": "Every other leaf reached is named, keep included, and learnt before the action"; a collapse "names nothing"
 
-unfoldable pub ruleLeaf : ℕ → Separators → Rule → Label → Leaf → List Leaf → Leaf
-ruleLeaf key s r g (leaf p n none) xs = leaf p n none
-ruleLeaf key s r g (leaf p n (some t)) xs = leaf p (n || covers r g p && not (isNode (reach r))) (after (effect key s r g p t xs) t)
+unfoldable pub rule_leaf : ℕ → Separators → Rule → Label → Leaf → List Leaf → Leaf
+rule_leaf key s r g (leaf p n none) xs = leaf p n none
+rule_leaf key s r g (leaf p n (some t)) xs = leaf p (n || covers r g p && not (is_node (reach r))) (after (effect key s r g p t xs) t)
 
-unfoldable pub ruleEvents : ℕ → Separators → Rule → Label → Leaf → List Leaf → List Event
-ruleEvents key s r g (leaf p n none) xs = []
-ruleEvents key s r g (leaf p n (some t)) xs =
-    cond (covers r g p) (learning s r.action (textsAt (reach r) p t xs)) []
-    ++ changing (row g p r.action) (size (textsAt (reach r) p t xs) - 1) (effect key s r g p t xs)
+unfoldable pub rule_events : ℕ → Separators → Rule → Label → Leaf → List Leaf → List Event
+rule_events key s r g (leaf p n none) xs = []
+rule_events key s r g (leaf p n (some t)) xs =
+    cond (covers r g p) (learning s r.action (texts_at (reach r) p t xs)) []
+    ++ changing (row g p r.action) (size (texts_at (reach r) p t xs) - 1) (effect key s r g p t xs)
 
 -- ---- the passes over unnamed leaves, with an action for each text or none
 
-unfoldable pub isUnnamed : Label → Place → Bool → Bool
-isUnnamed g p n = touchable g p && not n
+unfoldable pub is_unnamed : Label → Place → Bool → Bool
+is_unnamed g p n = touchable g p && not n
 
-unfoldable pub actOr : ℕ → Separators → Option Action → Text → Effect
-actOr key s none t = stays
-actOr key s (some a) t = act key s a t
+unfoldable pub act_or : ℕ → Separators → Option Action → Text → Effect
+act_or key s none t = stays
+act_or key s (some a) t = act key s a t
 
-unfoldable pub unnamedLeaf : ℕ → Separators → (Text → Option Action) → Label → Leaf → List Leaf → Leaf
-unnamedLeaf key s f g (leaf p n none) xs = leaf p n none
-unnamedLeaf key s f g (leaf p n (some t)) xs = leaf p n (after (cond (isUnnamed g p n) (actOr key s (f t) t) stays) t)
+unfoldable pub unnamed_leaf : ℕ → Separators → (Text → Option Action) → Label → Leaf → List Leaf → Leaf
+unnamed_leaf key s f g (leaf p n none) xs = leaf p n none
+unnamed_leaf key s f g (leaf p n (some t)) xs = leaf p n (after (cond (is_unnamed g p n) (act_or key s (f t) t) stays) t)
 
-unfoldable pub changingOr : ℕ → Separators → Option Action → Label → Place → Text → List Event
-changingOr key s none g p t = []
-changingOr key s (some a) g p t = changing (row g p a) (length t) (act key s a t)
+unfoldable pub changing_or : ℕ → Separators → Option Action → Label → Place → Text → List Event
+changing_or key s none g p t = []
+changing_or key s (some a) g p t = changing (row g p a) (length t) (act key s a t)
 
-unfoldable pub unnamedEvents : ℕ → Separators → (Text → Option Action) → Label → Leaf → List Leaf → List Event
-unnamedEvents key s f g (leaf p n none) xs = []
-unnamedEvents key s f g (leaf p n (some t)) xs = cond (isUnnamed g p n) (changingOr key s (f t) g p t) []
+unfoldable pub unnamed_events : ℕ → Separators → (Text → Option Action) → Label → Leaf → List Leaf → List Event
+unnamed_events key s f g (leaf p n none) xs = []
+unnamed_events key s f g (leaf p n (some t)) xs = cond (is_unnamed g p n) (changing_or key s (f t) g p t) []
 
 -- ---- a pass over the leaves of a segment and over segments
 
-abbrev pub overLeaves : (Label → Leaf → List Leaf → Leaf) → Label → List Leaf → List Leaf
-overLeaves f g [] = []
-overLeaves f g (x ∷ xs) = f g x xs ∷ overLeaves f g xs
+abbrev pub over_leaves : (Label → Leaf → List Leaf → Leaf) → Label → List Leaf → List Leaf
+over_leaves f g [] = []
+over_leaves f g (x ∷ xs) = f g x xs ∷ over_leaves f g xs
 
-abbrev pub overSegments : (Label → Leaf → List Leaf → Leaf) → List Segment → List Segment
-overSegments f [] = []
-overSegments f (segment g xs ∷ ss) = segment g (overLeaves f g xs) ∷ overSegments f ss
+abbrev pub over_segments : (Label → Leaf → List Leaf → Leaf) → List Segment → List Segment
+over_segments f [] = []
+over_segments f (segment g xs ∷ ss) = segment g (over_leaves f g xs) ∷ over_segments f ss
 
-abbrev pub leavesEvents : (Label → Leaf → List Leaf → List Event) → Label → List Leaf → List Event
-leavesEvents f g [] = []
-leavesEvents f g (x ∷ xs) = f g x xs ++ leavesEvents f g xs
+abbrev pub leaves_events : (Label → Leaf → List Leaf → List Event) → Label → List Leaf → List Event
+leaves_events f g [] = []
+leaves_events f g (x ∷ xs) = f g x xs ++ leaves_events f g xs
 
-abbrev pub segmentsEvents : (Label → Leaf → List Leaf → List Event) → List Segment → List Event
-segmentsEvents f [] = []
-segmentsEvents f (segment g xs ∷ ss) = leavesEvents f g xs ++ segmentsEvents f ss
+abbrev pub segments_events : (Label → Leaf → List Leaf → List Event) → List Segment → List Event
+segments_events f [] = []
+segments_events f (segment g xs ∷ ss) = leaves_events f g xs ++ segments_events f ss
 
 -- ---- the progress: what is learnt, the rows, and the message's size
 
@@ -224,24 +224,24 @@ unfoldable pub knows : Text → List Known → Bool
 knows v [] = false
 knows v (k ∷ ks) = same v k.value || knows v ks
 
-unfoldable pub knownBytes : List Known → ℕ
-knownBytes [] = 0
-knownBytes (k ∷ ks) = length k.value + knownBytes ks
+unfoldable pub known_bytes : List Known → ℕ
+known_bytes [] = 0
+known_bytes (k ∷ ks) = length k.value + known_bytes ks
 
 -- "first action wins"; "sweep on, and a 513th value or over 16,384 bytes of them"; "a change leaves the message over 49,152 bytes"
-unfoldable pub afterEvent : Bool → Progress → Event → Progress
-afterEvent sweep (stopped e) x = stopped e
-afterEvent sweep (running ks ρs z) (learn v a) =
+unfoldable pub after_event : Bool → Progress → Event → Progress
+after_event sweep (stopped e) x = stopped e
+after_event sweep (running ks ρs z) (learn v a) =
     cond (not sweep || knows v ks) (running ks ρs z)
-    (cond (leb LEARNT_MAX (length ks) || ltb LEARNT_BYTES_MAX (knownBytes ks + length v)) (stopped TooMuchLearnt)
+    (cond (leb LEARNT_MAX (length ks) || ltb LEARNT_BYTES_MAX (known_bytes ks + length v)) (stopped TooMuchLearnt)
     (running (ks ++ (record { value = v; action = a } ∷ [])) ρs z))
-afterEvent sweep (running ks ρs z) (change ρ went came) =
+after_event sweep (running ks ρs z) (change ρ went came) =
     cond (ltb TEXT_MAX (z - went + came)) (stopped MessageTooLong) (running ks (ρs ++ (ρ ∷ [])) (z - went + came))
 
 -- "Then 10 and 11 as they arise"
-unfoldable pub afterEvents : Bool → List Event → Progress → Progress
-afterEvents sweep [] b = b
-afterEvents sweep (e ∷ es) b = afterEvents sweep es (afterEvent sweep b e)
+unfoldable pub after_events : Bool → List Event → Progress → Progress
+after_events sweep [] b = b
+after_events sweep (e ∷ es) b = after_events sweep es (after_event sweep b e)
 
 unfoldable pub known_in : Progress → List Known
 known_in (running ks ρs z) = ks
@@ -249,80 +249,80 @@ known_in (stopped e) = []
 
 -- ---- "Rules in policy order, each over segments in order; then a rejecting posture over unnamed leaves; then the sweep"
 
-unfoldable pub afterRule : ℕ → Separators → Rule → List Segment → List Segment
-afterRule key s r ss = overSegments (ruleLeaf key s r) ss
+unfoldable pub after_rule : ℕ → Separators → Rule → List Segment → List Segment
+after_rule key s r ss = over_segments (rule_leaf key s r) ss
 
-unfoldable pub afterRules : ℕ → Separators → List Rule → List Segment → List Segment
-afterRules key s [] ss = ss
-afterRules key s (r ∷ rs) ss = afterRules key s rs (afterRule key s r ss)
+unfoldable pub after_rules : ℕ → Separators → List Rule → List Segment → List Segment
+after_rules key s [] ss = ss
+after_rules key s (r ∷ rs) ss = after_rules key s rs (after_rule key s r ss)
 
-unfoldable pub rulesEvents : ℕ → Separators → List Rule → List Segment → List Event
-rulesEvents key s [] ss = []
-rulesEvents key s (r ∷ rs) ss = segmentsEvents (ruleEvents key s r) ss ++ rulesEvents key s rs (afterRule key s r ss)
+unfoldable pub rules_events : ℕ → Separators → List Rule → List Segment → List Event
+rules_events key s [] ss = []
+rules_events key s (r ∷ rs) ss = segments_events (rule_events key s r) ss ++ rules_events key s rs (after_rule key s r ss)
 
-unfoldable pub forPosture : Posture → Text → Option Action
-forPosture accept t = none
-forPosture (reject a) t = some a
+unfoldable pub for_posture : Posture → Text → Option Action
+for_posture accept t = none
+for_posture (reject a) t = some a
 
 -- of a learnt value and one that was learnt later, "the longest in bytes .. and among equal lengths the one whose first learning came last"
-unfoldable pub longerOf : Known → Option Known → Option Known
-longerOf k none = some k
-longerOf k (some later) = cond (ltb (length later.value) (length k.value)) (some k) (some later)
+unfoldable pub longer_of : Known → Option Known → Option Known
+longer_of k none = some k
+longer_of k (some later) = cond (ltb (length later.value) (length k.value)) (some k) (some later)
 
 -- "the more specific one": among the learnt values found as a whole word in v, "the leaf's lower-cased value"
-unfoldable pub longestFound : List Known → Text → Option Known
-longestFound [] v = none
-longestFound (k ∷ ks) v = let later = longestFound ks v in cond (isWholeWord k.value v) (longerOf k later) later
+unfoldable pub longest_found : List Known → Text → Option Known
+longest_found [] v = none
+longest_found (k ∷ ks) v = let later = longest_found ks v in cond (is_whole_word k.value v) (longer_of k later) later
 
-unfoldable pub actionIn : Option Known → Option Action
-actionIn none = none
-actionIn (some k) = some k.action
+unfoldable pub action_in : Option Known → Option Action
+action_in none = none
+action_in (some k) = some k.action
 
-unfoldable pub forSweep : Separators → List Known → Text → Option Action
-forSweep s ks t = cond (isEmptyOrNull t) none (actionIn (longestFound ks (lowerText (value s t))))
+unfoldable pub for_sweep : Separators → List Known → Text → Option Action
+for_sweep s ks t = cond (is_empty_or_null t) none (action_in (longest_found ks (lower_text (value s t))))
 
 -- the segments when the sweep starts, what was said by then, and the progress
-unfoldable pub beforeSweep : ℕ → Separators → Policy → List Segment → List Segment
-beforeSweep key s P ss = overSegments (unnamedLeaf key s (forPosture P.posture)) (afterRules key s P.rules ss)
+unfoldable pub before_sweep : ℕ → Separators → Policy → List Segment → List Segment
+before_sweep key s P ss = over_segments (unnamed_leaf key s (for_posture P.posture)) (after_rules key s P.rules ss)
 
-unfoldable pub eventsBeforeSweep : ℕ → Separators → Policy → List Segment → List Event
-eventsBeforeSweep key s P ss =
-    rulesEvents key s P.rules ss ++ segmentsEvents (unnamedEvents key s (forPosture P.posture)) (afterRules key s P.rules ss)
+unfoldable pub events_before_sweep : ℕ → Separators → Policy → List Segment → List Event
+events_before_sweep key s P ss =
+    rules_events key s P.rules ss ++ segments_events (unnamed_events key s (for_posture P.posture)) (after_rules key s P.rules ss)
 
 -- z bytes are there when the run begins: the message's, and those beside it in its file
-unfoldable pub progressBeforeSweep : ℕ → ℕ → Separators → Policy → List Segment → Progress
-progressBeforeSweep z key s P ss = afterEvents P.sweep (eventsBeforeSweep key s P ss) (running [] [] z)
+unfoldable pub progress_before_sweep : ℕ → ℕ → Separators → Policy → List Segment → Progress
+progress_before_sweep z key s P ss = after_events P.sweep (events_before_sweep key s P ss) (running [] [] z)
 
 -- the message's text and its rows, or a refusal
 pub data Redacted : Type 0 where
   done : Text → List Row → Redacted
   refused : Refusal → Redacted
 
-unfoldable pub redactedAs : Separators → Bool → Progress → List Segment → Redacted
-redactedAs s cr (running ks ρs z) ss = done (printSegments s cr ss) ρs
-redactedAs s cr (stopped e) ss = refused e
+unfoldable pub redacted_as : Separators → Bool → Progress → List Segment → Redacted
+redacted_as s cr (running ks ρs z) ss = done (print_segments s cr ss) ρs
+redacted_as s cr (stopped e) ss = refused e
 
 -- the term "sweep". "The sweep visits unnamed leaves only .. and acts on the whole leaf"; where it is off nothing was learnt
 unfoldable pub swept : ℕ → Separators → Policy → Bool → List Known → Progress → List Segment → Redacted
 swept key s P cr ks b ss =
-    redactedAs s cr (afterEvents P.sweep (segmentsEvents (unnamedEvents key s (forSweep s ks)) ss) b)
-    (overSegments (unnamedLeaf key s (forSweep s ks)) ss)
+    redacted_as s cr (after_events P.sweep (segments_events (unnamed_events key s (for_sweep s ks)) ss) b)
+    (over_segments (unnamed_leaf key s (for_sweep s ks)) ss)
 
-unfoldable pub redactFrom : ℕ → ℕ → Policy → Message → Redacted
-redactFrom z key P m =
+unfoldable pub redact_from : ℕ → ℕ → Policy → Message → Redacted
+redact_from z key P m =
     let s = m.separators in
-    let b = progressBeforeSweep z key s P m.segments in
-    swept key s P m.lastCR (known_in b) b (beforeSweep key s P m.segments)
+    let b = progress_before_sweep z key s P m.segments in
+    swept key s P m.last_cr (known_in b) b (before_sweep key s P m.segments)
 
 -- a message by itself: nothing stands beside it
 unfoldable pub redact : ℕ → Policy → Message → Redacted
-redact key P m = redactFrom (length (printMessage m)) key P m
+redact key P m = redact_from (length (print_message m)) key P m
 
 -- ---- the report: "A row is the full path, a blank, the action, LF"
 
-unfoldable pub printRow : Row → Text
-printRow ρ = printPath ρ.path ++ (0x20 ∷ (printAction ρ.action ++ (0x0a ∷ [])))
+unfoldable pub print_row : Row → Text
+print_row ρ = print_path ρ.path ++ (0x20 ∷ (print_action ρ.action ++ (0x0a ∷ [])))
 
-unfoldable pub printRows : List Row → Text
-printRows [] = []
-printRows (ρ ∷ ρs) = printRow ρ ++ printRows ρs
+unfoldable pub print_rows : List Row → Text
+print_rows [] = []
+print_rows (ρ ∷ ρs) = print_row ρ ++ print_rows ρs

@@ -4,5 +4,5 @@ use Rattle.std.proofs.Math.Option.{Option, none, some}
 use Rattle.text.specs.Text.{Text}
 
 -- a file's bytes, none if it is missing
-unfoldable pub fileIf : Bool → Text → Option Text
-fileIf there t = cond there (some t) none
+unfoldable pub file_if : Bool → Text → Option Text
+file_if there t = cond there (some t) none

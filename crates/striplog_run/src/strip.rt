@@ -1,10 +1,10 @@
 // What striplog prints, from the bytes of its files.
 ghost use Rattle.std.specs.Prelude.{◌≤◌, length};
 ghost use Rattle.text.specs.Text.{Wrote};
-ghost use Rattle.run_model.specs.Entries.{redactOutcome};
-ghost use Rattle.striplog_text.specs.Striplog.{lentBuffers, printedOutcome, strippedWith};
+ghost use Rattle.run_model.specs.Entries.{redact_outcome};
+ghost use Rattle.striplog_text.specs.Striplog.{lent_buffers, printed_outcome, stripped_with};
 ghost use Rattle.striplog_text.specs.Key.{key_of};
-ghost use Rattle.striplog_run.specs.Files.{fileIf};
+ghost use Rattle.striplog_run.specs.Files.{file_if};
 
 use redact::redact::redact;
 use refusal::limits::TEXT_MAX;
@@ -14,7 +14,7 @@ use striplog_text::print::{put_bad_input, put_outcome};
 // Redacts the message, writes what is printed of it to the front of out, and returns its length.
 fn put_redacted(message: &[u8], policy: &[u8], key: u64, out: &mut [u8]) -> usize
     requires { 114714 ≤ length out.old }
-    ensures { Wrote out.old 0 (printedOutcome (redactOutcome lentBuffers message.now policy.now key)) out.new result }
+    ensures { Wrote out.old 0 (printed_outcome (redact_outcome lent_buffers message.now policy.now key)) out.new result }
 {
     let mut output = [0u8; TEXT_MAX];
     let mut report = [0u8; 65536];
@@ -42,7 +42,7 @@ pub fn strip(
     out: &mut [u8],
 ) -> usize
     requires { 114714 ≤ length out.old }
-    ensures { Wrote out.old 0 (strippedWith (fileIf has_message message.now) (fileIf has_policy policy.now) (key_of key)) out.new result }
+    ensures { Wrote out.old 0 (stripped_with (file_if has_message message.now) (file_if has_policy policy.now) (key_of key)) out.new result }
 {
     if !(has_message & has_policy) {
         return put_bad_input(out);

@@ -11,43 +11,43 @@ use lib.Seq.{take_all}
 use Rattle.text.specs.Text.{Text}
 use Rattle.text.proofs.Laws.{split}
 use Rattle.refusal.specs.declared.Refusal.TheVariants.{TooLong}
-use Rattle.refusal.specs.Refusal.{tooLong}
+use Rattle.refusal.specs.Refusal.{too_long}
 use Rattle.refusal.specs.Limits.{INPUT_MAX}
-use Rattle.message_model.specs.Message.{messageFault}
-use Rattle.policy_model.specs.Policy.{readPolicy, refused}
-use Rattle.run_model.specs.Entries.{LentReport, withoutFault, redactAnswer, redactOutcome}
+use Rattle.message_model.specs.Message.{message_fault}
+use Rattle.policy_model.specs.Policy.{read_policy, refused}
+use Rattle.run_model.specs.Entries.{LentReport, without_fault, redact_answer, redact_outcome}
 use Rattle.striplog_text.specs.declared.key.Key.TheVariants.{Nothing, Bad}
-use Rattle.striplog_text.specs.Striplog.{strippedWith, keyIn, stripped}
-use Rattle.striplog_text.specs.Key.{fedAll, key_of}
-use Rattle.striplog_text.proofs.Keys.{key-read-in-chunks}
+use Rattle.striplog_text.specs.Striplog.{stripped_with, key_in, stripped}
+use Rattle.striplog_text.specs.Key.{fed_all, key_of}
+use Rattle.striplog_text.proofs.Keys.{key_read_in_chunks}
 
 -- the first 32,769 bytes are all, or too many, as the whole text is
-whole-or-long {ℓ} : {X : Type ℓ} (t : Text) → (take 32769 t ≡ t → X) → (tooLong (take 32769 t) ≡ true → tooLong t ≡ true → X) → X
-unfolding tooLong
-whole-or-long t f g = split INPUT_MAX (length t)
+whole_or_long {ℓ} : {X : Type ℓ} (t : Text) → (take 32769 t ≡ t → X) → (too_long (take 32769 t) ≡ true → too_long t ≡ true → X) → X
+unfolding too_long
+whole_or_long t f g = split INPUT_MAX (length t)
     (λ h. g (lt-ltb INPUT_MAX (length (take 32769 t)) (simp length-take (omega arith))) (lt-ltb INPUT_MAX (length t) h))
     (λ h. f (take_all 32769 t (omega arith)))
 
-long-message : (t : Text) → tooLong t ≡ true → messageFault t ≡ some TooLong
-unfolding messageFault
-long-message t h = rw h
+long_message : (t : Text) → too_long t ≡ true → message_fault t ≡ some TooLong
+unfolding message_fault
+long_message t h = rw h
 
-long-policy : (t : Text) → tooLong t ≡ true → readPolicy t ≡ refused TooLong 0
-unfolding readPolicy
-long-policy t h = rw h
+long_policy : (t : Text) → too_long t ≡ true → read_policy t ≡ refused TooLong 0
+unfolding read_policy
+long_policy t h = rw h
 
-policy-cut : (p : Text) → readPolicy (take 32769 p) ≡ readPolicy p
-policy-cut p = whole-or-long p (ap readPolicy) (λ h k. long-policy (take 32769 p) h ∙ sym (long-policy p k))
+policy_cut : (p : Text) → read_policy (take 32769 p) ≡ read_policy p
+policy_cut p = whole_or_long p (ap read_policy) (λ h k. long_policy (take 32769 p) h ∙ sym (long_policy p k))
 
 module _ (b : LentReport) (m p : Text) (k : ℕ) where
-  answer-cut : redactAnswer b (take 32769 m) (take 32769 p) k ≡ redactAnswer b m p k
-  unfolding redactAnswer withoutFault
-  answer-cut = rw (policy-cut p)
-      (whole-or-long m (λ e. rw e) (λ h l. rw (long-message (take 32769 m) h, long-message m l)))
+  answer_cut : redact_answer b (take 32769 m) (take 32769 p) k ≡ redact_answer b m p k
+  unfolding redact_answer without_fault
+  answer_cut = rw (policy_cut p)
+      (whole_or_long m (λ e. rw e) (λ h l. rw (long_message (take 32769 m) h, long_message m l)))
 
-  outcome-cut : redactOutcome b (take 32769 m) (take 32769 p) k ≡ redactOutcome b m p k
-  unfolding redactOutcome
-  outcome-cut = rw answer-cut
+  outcome_cut : redact_outcome b (take 32769 m) (take 32769 p) k ≡ redact_outcome b m p k
+  unfolding redact_outcome
+  outcome_cut = rw answer_cut
 
 -- what is read of message and policy, none if missing
 unfoldable pub cut : Option Text → Option Text
@@ -55,20 +55,20 @@ cut none = none
 cut (some t) = some (take 32769 t)
 
 -- what is printed follows from that
-pub files-cut : (message policy : Option Text) (key : Option ℕ) → strippedWith (cut message) (cut policy) key ≡ strippedWith message policy key
-unfolding strippedWith cut
-files-cut none policy key = refl
-files-cut (some m) none key = refl
-files-cut (some m) (some p) none = refl
-files-cut (some m) (some p) (some k) = rw (outcome-cut _ m p k)
+pub files_cut : (message policy : Option Text) (key : Option ℕ) → stripped_with (cut message) (cut policy) key ≡ stripped_with message policy key
+unfolding stripped_with cut
+files_cut none policy key = refl
+files_cut (some m) none key = refl
+files_cut (some m) (some p) none = refl
+files_cut (some m) (some p) (some k) = rw (outcome_cut _ m p k)
 
 -- and from the key that the chunks of its file leave
-pub files-read : (message policy : Option Text) (ts : List Text)
-    → strippedWith (cut message) (cut policy) (key_of (fedAll Nothing ts)) ≡ stripped message policy (some (flatten ts))
-unfolding stripped keyIn
-files-read message policy ts = rw (key-read-in-chunks ts) (files-cut message policy _)
+pub files_read : (message policy : Option Text) (ts : List Text)
+    → stripped_with (cut message) (cut policy) (key_of (fed_all Nothing ts)) ≡ stripped message policy (some (flatten ts))
+unfolding stripped key_in
+files_read message policy ts = rw (key_read_in_chunks ts) (files_cut message policy _)
 
 -- a key that is missing is as one that is bad
-pub key-missing : (message policy : Option Text) → strippedWith (cut message) (cut policy) (key_of Bad) ≡ stripped message policy none
-unfolding stripped keyIn key_of
-key-missing message policy = files-cut message policy none
+pub key_missing : (message policy : Option Text) → stripped_with (cut message) (cut policy) (key_of Bad) ≡ stripped message policy none
+unfolding stripped key_in key_of
+key_missing message policy = files_cut message policy none

@@ -1,6 +1,6 @@
 // The key of key.txt, read chunk by chunk: leading zeros are allowed, so a file of any length may hold one.
 ghost use Rattle.std.specs.Prelude.{◌≡◌, ◌<◌};
-ghost use Rattle.striplog_text.specs.Key.{withDigit, behindDigits, fedByte, fed};
+ghost use Rattle.striplog_text.specs.Key.{with_digit, behind_digits, fed_byte, fed};
 
 use text::bytes::{Class, is_in};
 
@@ -16,7 +16,7 @@ pub enum Key {
 // The digit d behind digits worth n.
 fn with_digit(n: u64, d: u64) -> Key
     requires { d < 10 }
-    ensures { result ≡ withDigit n d }
+    ensures { result ≡ with_digit n d }
 {
     if n <= (18446744073709551615 - d) / 10 {
         return Key::Digits(n * 10 + d);
@@ -26,7 +26,7 @@ fn with_digit(n: u64, d: u64) -> Key
 
 // The byte b behind digits worth n.
 fn behind_digits(n: u64, b: u8) -> Key
-    ensures { result ≡ behindDigits n b }
+    ensures { result ≡ behind_digits n b }
 {
     if is_in(Class::Digit, b) {
         return with_digit(n, (b - 48) as u64);
@@ -39,7 +39,7 @@ fn behind_digits(n: u64, b: u8) -> Key
 
 // The byte b behind the bytes so far.
 fn feed_byte(key: Key, b: u8) -> Key
-    ensures { result ≡ fedByte key b }
+    ensures { result ≡ fed_byte key b }
 {
     match key {
         Key::Nothing => {

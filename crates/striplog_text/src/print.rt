@@ -1,15 +1,15 @@
 // What striplog prints.
 ghost use Rattle.std.specs.Prelude.{◌+◌, ◌≤◌, length};
 ghost use Rattle.text.specs.Text.{Wrote};
-ghost use Rattle.striplog_text.specs.Striplog.{rowsLine, refusedLine, badInput, printed};
+ghost use Rattle.striplog_text.specs.Striplog.{rows_line, refused_line, bad_input, printed};
 
 use text::bytes::{byte_at, copy_at};
 use text::decimal::decimal_at;
 
 // Writes `rows N` and LF to out from index at on, and returns the index behind it.
 pub fn put_rows(n: u64, out: &mut [u8], at: usize) -> usize
-    requires { at + length (rowsLine n) ≤ length out.old }
-    ensures { Wrote out.old at (rowsLine n) out.new result }
+    requires { at + length (rows_line n) ≤ length out.old }
+    ensures { Wrote out.old at (rows_line n) out.new result }
 {
     let k = copy_at(out, at, b"rows ");
     let e = decimal_at(out, k, n);
@@ -18,8 +18,8 @@ pub fn put_rows(n: u64, out: &mut [u8], at: usize) -> usize
 
 // Writes `refused N line L` and LF to out from index at on, and returns the index behind it.
 pub fn put_refused(number: u32, line: u64, out: &mut [u8], at: usize) -> usize
-    requires { at + length (refusedLine number line) ≤ length out.old }
-    ensures { Wrote out.old at (refusedLine number line) out.new result }
+    requires { at + length (refused_line number line) ≤ length out.old }
+    ensures { Wrote out.old at (refused_line number line) out.new result }
 {
     let k = copy_at(out, at, b"refused ");
     let m = decimal_at(out, k, number as u64);
@@ -51,7 +51,7 @@ pub fn put_outcome(
 // Writes `bad input` and LF to the front of out, and returns the length.
 pub fn put_bad_input(out: &mut [u8]) -> usize
     requires { 10 ≤ length out.old }
-    ensures { Wrote out.old 0 badInput out.new result }
+    ensures { Wrote out.old 0 bad_input out.new result }
 {
     copy_at(out, 0, b"bad input\n")
 }

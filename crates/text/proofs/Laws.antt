@@ -29,24 +29,24 @@ at_least a x b e = leb-true a x (and_left (leb a x) (leb x b) e)
 pub at_most : (a x b : ℕ) → leb a x && leb x b ≡ true → x ≤ b
 at_most a x b e = leb-true x b (and_right (leb a x) (leb x b) e)
 
-pub and-false : (a : Bool) → a && false ≡ false
-and-false true = refl
-and-false false = refl
+pub and_false : (a : Bool) → a && false ≡ false
+and_false true = refl
+and_false false = refl
 
-pub and-id : (a : Bool) → a && true ≡ a
-and-id true = refl
-and-id false = refl
+pub and_id : (a : Bool) → a && true ≡ a
+and_id true = refl
+and_id false = refl
 
-pub or-id : (a : Bool) → a || false ≡ a
-or-id true = refl
-or-id false = refl
+pub or_id : (a : Bool) → a || false ≡ a
+or_id true = refl
+or_id false = refl
 
-pub or-true : (a : Bool) → a || true ≡ true
-or-true true = refl
-or-true false = refl
+pub or_true : (a : Bool) → a || true ≡ true
+or_true true = refl
+or_true false = refl
 
-pub and-true : (a b : Bool) → a ≡ true → b ≡ true → a && b ≡ true
-and-true a b e f = rw (e, f)
+pub and_true : (a b : Bool) → a ≡ true → b ≡ true → a && b ≡ true
+and_true a b e f = rw (e, f)
 
 -- a choice, by its test
 pub by_cond {ℓ κ} : {X : Type ℓ} (P : X → Type κ) (b : Bool) (x y : X) → (b ≡ true → P x) → (b ≡ false → P y) → P (cond b x y)

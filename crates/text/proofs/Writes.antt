@@ -29,14 +29,14 @@ copied_all d at s {j} e h l = record { end = omega arith; high = omega arith; te
 
 -- ---- several writes
 
-pub put-length : (d : Text) (at : ℕ) (s : Text) → at + length s ≤ length d → length (put d at s) ≡ length d
+pub put_length : (d : Text) (at : ℕ) (s : Text) → at + length s ≤ length d → length (put d at s) ≡ length d
 unfolding put
-put-length d at s h = simp (length-append, length-take, length-drop) (omega arith)
+put_length d at s h = simp (length-append, length-take, length-drop) (omega arith)
 
 -- nothing is written
-pub put-none : (d : Text) (at : ℕ) → put d at [] ≡ d
+pub put_none : (d : Text) (at : ℕ) → put d at [] ≡ d
 unfolding put
-put-none d at = rw (append-nil, add-zero at) (take-append-drop at d)
+put_none d at = rw (append-nil, add-zero at) (take-append-drop at d)
 
 -- a byte is a text of one byte
 pub put_byte : (d : Text) (at v : ℕ) → at < length d → set d at v ≡ put d at (v ∷ [])
@@ -44,28 +44,28 @@ unfolding put
 put_byte d at v h = set_split d at v h ∙ rw (append_assoc, add-one)
 
 -- a second text behind the first
-pub put-put : (d : Text) (at : ℕ) (s : Text) (k : ℕ) (t : Text) → k ≡ at + length s → k + length t ≤ length d
+pub put_put : (d : Text) (at : ℕ) (s : Text) (k : ℕ) (t : Text) → k ≡ at + length s → k + length t ≤ length d
     → put (put d at s) k t ≡ put d at (s ++ t)
 unfolding put
-put-put d at s k t e h =
+put_put d at s k t e h =
     let l : length (take at d ++ s) ≡ k = simp (length-append, length-take) (omega arith) in
     rw (take_at (take at d ++ s) (drop (at + length s) d) k l, ← drop-drop, drop_at (take at d ++ s) (drop (at + length s) d) k l, drop-drop (length t) (at + length s) d, length-append s t, append_assoc (take at d) s t, add_assoc at (length s) (length t))
 
 pub wrote_none : (d : Text) (at : ℕ) → at ≤ length d → Wrote d at [] d at
-wrote_none d at h = record { end = omega arith; high = h; text = sym (put-none d at) }
+wrote_none d at h = record { end = omega arith; high = h; text = sym (put_none d at) }
 
-pub wrote-byte : (d : Text) (at v : ℕ) → at < length d → Wrote d at (v ∷ []) (set d at v) (at + 1)
-wrote-byte d at v h = record { end = omega arith; high = omega arith; text = put_byte d at v h }
+pub wrote_byte : (d : Text) (at v : ℕ) → at < length d → Wrote d at (v ∷ []) (set d at v) (at + 1)
+wrote_byte d at v h = record { end = omega arith; high = omega arith; text = put_byte d at v h }
 
-pub wrote-length : {d d' s : Text} {at r : ℕ} → Wrote d at s d' r → length d' ≡ length d
-wrote-length {d} {d'} {s} {at} {r} w = ap length w.text ∙ put-length d at s (omega (arith, w.end, w.high))
+pub wrote_length : {d d' s : Text} {at r : ℕ} → Wrote d at s d' r → length d' ≡ length d
+wrote_length {d} {d'} {s} {at} {r} w = ap length w.text ∙ put_length d at s (omega (arith, w.end, w.high))
 
 pub wrote_then : {d d₁ d₂ s t : Text} {at k r : ℕ} → Wrote d at s d₁ k → Wrote d₁ k t d₂ r → Wrote d at (s ++ t) d₂ r
 wrote_then {d} {d₁} {d₂} {s} {t} {at} {k} {r} p q =
-    let h : r ≤ length d = omega (arith, q.high, wrote-length p) in record {
+    let h : r ≤ length d = omega (arith, q.high, wrote_length p) in record {
       end = simp length-append (omega (arith, p.end, q.end));
       high = h;
-      text = q.text ∙ rw p.text (put-put d at s k t p.end (omega (arith, q.end)));
+      text = q.text ∙ rw p.text (put_put d at s k t p.end (omega (arith, q.end)));
     }
 
 -- ---- bytes v from index at on, which have come to index i
@@ -75,7 +75,7 @@ filled d at v i = put d at (replicate (i - at) v)
 
 pub filled_none : (d : Text) (at v : ℕ) → d ≡ filled d at v at
 unfolding filled
-filled_none d at v = rw (sub_self at) (sym (put-none d at))
+filled_none d at v = rw (sub_self at) (sym (put_none d at))
 
 pub filled_more : (d₀ : Text) (at v i : ℕ) {d : Text} → d ≡ filled d₀ at v i → at ≤ i → i < length d₀ → set d i v ≡ filled d₀ at v (i + 1)
 unfolding filled
@@ -83,24 +83,24 @@ filled_more d₀ at v i e l h =
     let n : i + 1 - at ≡ i - at + 1 = omega arith in
     let k : at + length (replicate (i - at) v) ≡ i = simp length-replicate (omega arith) in
     rw (e, n, ← replicate-append-replicate (i - at) 1 v)
-    (put_byte _ i v (rw (put-length d₀ at (replicate (i - at) v) (omega arith)) h) ∙ put-put d₀ at _ i (v ∷ []) (sym k) (omega arith))
+    (put_byte _ i v (rw (put_length d₀ at (replicate (i - at) v) (omega arith)) h) ∙ put_put d₀ at _ i (v ∷ []) (sym k) (omega arith))
 
-pub filled-wrote : (d : Text) (at v n : ℕ) {d' : Text} {i : ℕ} → d' ≡ filled d at v i → i ≡ at + n → at + n ≤ length d → Wrote d at (replicate n v) d' i
+pub filled_wrote : (d : Text) (at v n : ℕ) {d' : Text} {i : ℕ} → d' ≡ filled d at v i → i ≡ at + n → at + n ≤ length d → Wrote d at (replicate n v) d' i
 unfolding filled
-filled-wrote d at v n {d'} {i} e h l =
+filled_wrote d at v n {d'} {i} e h l =
     let k : i - at ≡ n = omega arith in
     record { end = rw (length-replicate n v) h; high = omega arith; text = e ∙ rw k }
 
 -- zeros up to the end
-pub wrote-zeros : {d d' : Text} {at r : ℕ} → at ≤ length d → Wrote d at (replicate (length d - at) 0) d' r → d' ≡ zeroed d at
+pub wrote_zeros : {d d' : Text} {at r : ℕ} → at ≤ length d → Wrote d at (replicate (length d - at) 0) d' r → d' ≡ zeroed d at
 unfolding zeroed put
-wrote-zeros {d} {d'} {at} {r} h w =
+wrote_zeros {d} {d'} {at} {r} h w =
     w.text ∙ rw (drop_of_length-le d {i = at + length {A = ℕ} (replicate (length d - at) 0)} (simp length-replicate (omega arith)), append-nil)
 
 -- a byte in front of what was written
-pub put-before : (d : Text) (at v : ℕ) (t : Text) → at + suc (length t) ≤ length d → set (put d (at + 1) t) at v ≡ put d at (v ∷ t)
+pub put_before : (d : Text) (at v : ℕ) (t : Text) → at + suc (length t) ≤ length d → set (put d (at + 1) t) at v ≡ put d at (v ∷ t)
 unfolding put
-put-before d at v t h =
+put_before d at v t h =
     let q : at + 1 + length t ≡ at + suc (length t) = omega arith in
     rw (q, add-one at, take-suc d at 0 (omega arith))
     (simp append_assoc (set_at (take at d) _ (t ++ drop (at + suc (length t)) d) v at (length-take-le at d (omega arith))))

@@ -2,5 +2,5 @@
 use Rattle.std.specs.Prelude.{Bool, ℕ, ◌+◌, ◌*◌, ◌^◌, ltb}
 
 -- one more digit still fits in 64 bits
-unfoldable pub hasRoom : ℕ → ℕ → Bool
-hasRoom n d = ltb (n * 10 + d) (2 ^ 64)
+unfoldable pub has_room : ℕ → ℕ → Bool
+has_room n d = ltb (n * 10 + d) (2 ^ 64)

@@ -1,6 +1,6 @@
 -- Numbers as text, in decimal and in hexadecimal. Assumes nothing: these are definitions.
 use Rattle.std.specs.Prelude.{◌≡◌, true, false, cond, not, ◌&&◌, [], ◌∷◌, ◌++◌, ℕ, zero, suc, ◌+◌, ◌*◌, ◌-◌, ◌/◌, ◌%◌, ◌^◌, ◌≤◌, length, drop, ltb}
-use Rattle.text.specs.Text.{Text, isDigit, is_empty, run, rest}
+use Rattle.text.specs.Text.{Text, is_digit, is_empty, run, rest}
 use Rattle.text.specs.declared.decimal.Number.{Number}
 use Rattle.text.specs.declared.decimal.Number.TheVariants.{At, Refused}
 
@@ -23,10 +23,10 @@ pub data Taken : Type 0 where
   refused : Taken
 
 -- the digits at the front, at least one, "leading zeros allowed", up to 18446744073709551615
-unfoldable pub takeNumber : Text → Taken
-takeNumber s =
-    cond (not (is_empty (run isDigit s)) && ltb (worth 0 (run isDigit s)) (2 ^ 64))
-    (taken (worth 0 (run isDigit s)) (rest isDigit s))
+unfoldable pub take_number : Text → Taken
+take_number s =
+    cond (not (is_empty (run is_digit s)) && ltb (worth 0 (run is_digit s)) (2 ^ 64))
+    (taken (worth 0 (run is_digit s)) (rest is_digit s))
     refused
 
 -- k digits of n in base b, the highest first, each written by f
@@ -35,22 +35,22 @@ positional b f zero n = []
 positional b f (suc k) n = positional b f k (n / b) ++ (f (n % b) ∷ [])
 
 -- "16 lower-case hexadecimal digits"
-unfoldable pub hexDigit : ℕ → ℕ
-hexDigit n = cond (ltb n 10) (48 + n) (87 + n)
+unfoldable pub hex_digit : ℕ → ℕ
+hex_digit n = cond (ltb n 10) (48 + n) (87 + n)
 
 unfoldable pub hexadecimal : ℕ → Text
-hexadecimal n = positional 16 hexDigit 16 n
+hexadecimal n = positional 16 hex_digit 16 n
 
 -- a number's eight bytes, "highest first"
-unfoldable pub eightBytes : ℕ → Text
-eightBytes n = positional 256 (λ x. x) 8 n
+unfoldable pub eight_bytes : ℕ → Text
+eight_bytes n = positional 256 (λ x. x) 8 n
 
 -- ---- what is read from an index on
 
 -- what an answer says: the number, and the text from the index behind it
-unfoldable pub asTaken : Text → Number → Taken
-asTaken s (At n r) = taken n (drop r s)
-asTaken s Refused = refused
+unfoldable pub as_taken : Text → Number → Taken
+as_taken s (At n r) = taken n (drop r s)
+as_taken s Refused = refused
 
 -- the index behind a number lies in the text
 abbrev pub Inside : Text → ℕ → Number → Type 0
@@ -59,5 +59,5 @@ Inside s i Refused = Unit {0}
 
 -- a is what f takes from s at index i
 pub record TakenAt (f : Text → Taken) (s : Text) (i : ℕ) (a : Number) : Type 0 where
-  pub is : asTaken s a ≡ f (drop i s)
+  pub is : as_taken s a ≡ f (drop i s)
   pub inside : Inside s i a

@@ -15,42 +15,42 @@ bytes (c character-then s) = code c ∷ bytes s
 
 -- ---- bytes
 
-unfoldable pub isDigit : ℕ → Bool
-isDigit x = leb 48 x && leb x 57
+unfoldable pub is_digit : ℕ → Bool
+is_digit x = leb 48 x && leb x 57
 
-unfoldable pub isUpper : ℕ → Bool
-isUpper x = leb 65 x && leb x 90
+unfoldable pub is_upper : ℕ → Bool
+is_upper x = leb 65 x && leb x 90
 
-unfoldable pub isLower : ℕ → Bool
-isLower x = leb 97 x && leb x 122
+unfoldable pub is_lower : ℕ → Bool
+is_lower x = leb 97 x && leb x 122
 
 -- "ASCII letters and digits"
-unfoldable pub isAlphanumeric : ℕ → Bool
-isAlphanumeric x = isDigit x || isUpper x || isLower x
+unfoldable pub is_alphanumeric : ℕ → Bool
+is_alphanumeric x = is_digit x || is_upper x || is_lower x
 
 -- a blank or a tab
-unfoldable pub isBlank : ℕ → Bool
-isBlank x = eqb x 32 || eqb x 9
+unfoldable pub is_blank : ℕ → Bool
+is_blank x = eqb x 32 || eqb x 9
 
-unfoldable pub notBlank : ℕ → Bool
-notBlank x = not (isBlank x)
+unfoldable pub not_blank : ℕ → Bool
+not_blank x = not (is_blank x)
 
 -- the bytes of a class
-unfoldable pub isIn : Class → ℕ → Bool
-isIn Digit x = isDigit x
-isIn Alphanumeric x = isAlphanumeric x
-isIn Blank x = isBlank x
-isIn NotBlank x = notBlank x
-isIn (AllBut b) x = not (eqb x b)
+unfoldable pub is_in : Class → ℕ → Bool
+is_in Digit x = is_digit x
+is_in Alphanumeric x = is_alphanumeric x
+is_in Blank x = is_blank x
+is_in NotBlank x = not_blank x
+is_in (AllBut b) x = not (eqb x b)
 
 -- "case ignored": the lower case of an ASCII capital, and any other byte itself
-unfoldable pub lowerByte : ℕ → ℕ
-lowerByte x = cond (isUpper x) (x + 32) x
+unfoldable pub lower_byte : ℕ → ℕ
+lower_byte x = cond (is_upper x) (x + 32) x
 
 -- ---- texts
 
 unfoldable pub lower : Text → Text
-lower s = map lowerByte s
+lower s = map lower_byte s
 
 unfoldable pub same : Text → Text → Bool
 same [] [] = true
@@ -59,8 +59,8 @@ same (x ∷ s) [] = false
 same (x ∷ s) (y ∷ t) = eqb x y && same s t
 
 -- s is the word w, which is in lower case, whatever the case of s
-unfoldable pub isWord : Text → Text → Bool
-isWord s w = same (lower s) w
+unfoldable pub is_word : Text → Text → Bool
+is_word s w = same (lower s) w
 
 unfoldable pub is_empty : Text → Bool
 is_empty [] = true
@@ -124,11 +124,11 @@ pub record RunEnd (p : ℕ → Bool) (s : Text) (i r : ℕ) : Type 0 where
   pub low : i ≤ r
   pub high : r ≤ length s
   pub run_is : part s i (r - i) ≡ run p (drop i s)
-  pub rest-is : drop r s ≡ rest p (drop i s)
+  pub rest_is : drop r s ≡ rest p (drop i s)
 
 -- r is where the run of p from index i on ends, in the text up to index e
 pub record RunTo (p : ℕ → Bool) (s : Text) (i e r : ℕ) : Type 0 where
   pub low : i ≤ r
   pub high : r ≤ e
   pub run_is : between s i r ≡ run p (between s i e)
-  pub rest-is : between s r e ≡ rest p (between s i e)
+  pub rest_is : between s r e ≡ rest p (between s i e)

@@ -1,6 +1,6 @@
 // Bytes: classes, words, runs, and copies and zeros in a buffer.
 ghost use Rattle.std.specs.Prelude.{◌≡◌, [], ◌∷◌, ◌+◌, ◌≤◌, ◌<◌, length, replicate};
-ghost use Rattle.text.specs.Text.{isIn, lowerByte, same, isWord, RunEnd, RunTo, Wrote, zeroed};
+ghost use Rattle.text.specs.Text.{is_in, lower_byte, same, is_word, RunEnd, RunTo, Wrote, zeroed};
 
 // Sets of bytes: digits, letters and digits, blanks and tabs, all but these, all but one byte.
 #[derive(Drop)]
@@ -14,7 +14,7 @@ pub enum Class {
 
 // Whether the byte b is of the class.
 pub fn is_in(class: Class, b: u8) -> bool
-    ensures { result ≡ isIn class b }
+    ensures { result ≡ is_in class b }
 {
     match class {
         Class::Digit => (48 <= b) & (b <= 57),
@@ -29,7 +29,7 @@ pub fn is_in(class: Class, b: u8) -> bool
 
 // The lower case of an ASCII capital, and any other byte itself.
 pub fn lower_byte(b: u8) -> u8
-    ensures { result ≡ lowerByte b }
+    ensures { result ≡ lower_byte b }
 {
     if (65 <= b) & (b <= 90) {
         return b + 32;
@@ -40,7 +40,7 @@ pub fn lower_byte(b: u8) -> u8
 // Where the run of bytes of the class, from index i on, ends.
 pub fn run_end(s: &[u8], i: usize, class: Class) -> usize
     requires { i ≤ length s.now }
-    ensures { RunEnd (isIn class) s.now i result }
+    ensures { RunEnd (is_in class) s.now i result }
 {
     let mut j = i;
     while j < s.len() {
@@ -55,7 +55,7 @@ pub fn run_end(s: &[u8], i: usize, class: Class) -> usize
 // Where the run of bytes of the class, from index i on, ends in the text up to index e.
 pub fn run_to(s: &[u8], i: usize, e: usize, class: Class) -> usize
     requires { (i ≤ e) × (e ≤ length s.now) }
-    ensures { RunTo (isIn class) s.now i e result }
+    ensures { RunTo (is_in class) s.now i e result }
 {
     i + run_end(&s[i..e], 0, class)
 }
@@ -79,7 +79,7 @@ pub fn same_bytes(s: &[u8], t: &[u8]) -> bool
 
 // Whether s is the word w, which is in lower case, whatever the case of s.
 pub fn is_word(s: &[u8], w: &[u8]) -> bool
-    ensures { result ≡ isWord s.now w.now }
+    ensures { result ≡ is_word s.now w.now }
 {
     if s.len() != w.len() {
         return false;

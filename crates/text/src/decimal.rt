@@ -1,8 +1,8 @@
 // Decimal numbers: printing and reading.
 ghost use Rattle.std.specs.Prelude.{◌≡◌, ◌+◌, ◌≤◌, ◌<◌, length};
 ghost use Rattle.text.specs.Text.{Wrote};
-ghost use Rattle.text.specs.Number.{decimal, takeNumber, TakenAt};
-ghost use Rattle.text.specs.Inner.{hasRoom};
+ghost use Rattle.text.specs.Number.{decimal, take_number, TakenAt};
+ghost use Rattle.text.specs.Inner.{has_room};
 
 use super::bytes::{Class, is_in};
 
@@ -51,7 +51,7 @@ pub fn decimal_len(n: u64) -> usize
 // Whether n * 10 + d is a u64.
 fn has_room(n: u64, d: u64) -> bool
     requires { d < 10 }
-    ensures { result ≡ hasRoom n d }
+    ensures { result ≡ has_room n d }
 {
     n <= (18446744073709551615 - d) / 10
 }
@@ -59,7 +59,7 @@ fn has_room(n: u64, d: u64) -> bool
 // Reads the digits from index i on, at least one, as a u64.
 pub fn number_at(s: &[u8], i: usize) -> Number
     requires { i ≤ length s.now }
-    ensures { TakenAt takeNumber s.now i result }
+    ensures { TakenAt take_number s.now i result }
 {
     let mut n: u64 = 0;
     let mut j = i;

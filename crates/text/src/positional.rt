@@ -1,12 +1,12 @@
 // Numbers digit by digit, the highest first: in hexadecimal, and as bytes.
 ghost use Rattle.std.specs.Prelude.{◌≡◌, ◌+◌, ◌≤◌, ◌<◌, length};
 ghost use Rattle.text.specs.Text.{Wrote};
-ghost use Rattle.text.specs.Number.{hexDigit, hexadecimal, eightBytes};
+ghost use Rattle.text.specs.Number.{hex_digit, hexadecimal, eight_bytes};
 
 // A digit as a byte, in lower case.
 fn hex_digit(n: u64) -> u8
     requires { n < 16 }
-    ensures { result ≡ hexDigit n }
+    ensures { result ≡ hex_digit n }
 {
     if n < 10 {
         return 48 + n as u8;
@@ -32,7 +32,7 @@ pub fn hexadecimal_at(buf: &mut [u8], at: usize, n: u64) -> usize
 // Writes the eight bytes of n to buf from index at on, and returns the index behind them.
 pub fn eight_bytes_at(buf: &mut [u8], at: usize, n: u64) -> usize
     requires { at + 8 ≤ length buf.old }
-    ensures { Wrote buf.old at (eightBytes n) buf.new result }
+    ensures { Wrote buf.old at (eight_bytes n) buf.new result }
 {
     let mut m = n;
     let mut i = 0;

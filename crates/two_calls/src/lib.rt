@@ -1,6 +1,6 @@
 // Demand 3 of the code: two calls of redact on messages that are alike in all but covered leaves.
 ghost use Rattle.std.specs.Prelude.{length};
-ghost use Rattle.entries.specs.Returned.{lentReport, asRedactOutcome};
+ghost use Rattle.entries.specs.Returned.{lent_report, as_redact_outcome};
 ghost use Rattle.two_calls.specs.TwoCalls.{RedactedTwice};
 
 use entries::returned::ReturnedReport;
@@ -26,7 +26,7 @@ pub fn redact_twice(
     report2: &mut [u8],
     scratch2: &mut [u8],
 ) -> Twice
-    ensures { RedactedTwice first.now second.now policy.now key (lentReport (length output1.old) (length report1.old) (length scratch1.old)) (lentReport (length output2.old) (length report2.old) (length scratch2.old)) (asRedactOutcome result.one output1.new report1.new scratch1.new) (asRedactOutcome result.two output2.new report2.new scratch2.new) }
+    ensures { RedactedTwice first.now second.now policy.now key (lent_report (length output1.old) (length report1.old) (length scratch1.old)) (lent_report (length output2.old) (length report2.old) (length scratch2.old)) (as_redact_outcome result.one output1.new report1.new scratch1.new) (as_redact_outcome result.two output2.new report2.new scratch2.new) }
 {
     let one = redact(first, policy, key, output1, report1, scratch1);
     let two = redact(second, policy, key, output2, report2, scratch2);

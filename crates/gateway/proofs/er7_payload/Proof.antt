@@ -1,7 +1,7 @@
 use borrow.Author.Rules.{rules}
 use Rattle.gateway.proofs.er7_payload.Statement.{statement}
 use Rattle.gateway.proofs.er7_payload.Tie as tie
-use Rattle.gateway.proofs.Laws.{returned-text}
+use Rattle.gateway.proofs.Laws.{returned_text}
 
 payload-requires : tie.Need-payload-requires
 payload-requires c κs = search rules
@@ -13,7 +13,7 @@ same-length-2 : tie.Need-same-length-2
 same-length-2 c = search rules
 
 returns : tie.Need-returns
-returns c = returned-text _ _ _ c.before.before.before.before.payload.ensures
+returns c = returned_text _ _ _ c.before.before.before.before.payload.ensures
 
-pub er7-payload-spec : {M : Type 1} → statement M
-er7-payload-spec = tie.close (tie.spec payload-requires same_length same-length-2 returns)
+pub er7_payload_spec : {M : Type 1} → statement M
+er7_payload_spec = tie.close (tie.spec payload-requires same_length same-length-2 returns)

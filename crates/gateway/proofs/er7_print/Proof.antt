@@ -1,7 +1,7 @@
 use borrow.Author.Rules.{rules}
 use Rattle.gateway.proofs.er7_print.Statement.{statement}
 use Rattle.gateway.proofs.er7_print.Tie as tie
-use Rattle.gateway.proofs.Laws.{returned-text}
+use Rattle.gateway.proofs.Laws.{returned_text}
 
 print-requires : tie.Need-print-requires
 print-requires c κs = search rules
@@ -13,7 +13,7 @@ same-length-2 : tie.Need-same-length-2
 same-length-2 c = search rules
 
 returns : tie.Need-returns
-returns c = returned-text _ _ _ c.before.before.before.before.print.ensures
+returns c = returned_text _ _ _ c.before.before.before.before.print.ensures
 
-pub er7-print-spec : {M : Type 1} → statement M
-er7-print-spec = tie.close (tie.spec print-requires same_length same-length-2 returns)
+pub er7_print_spec : {M : Type 1} → statement M
+er7_print_spec = tie.close (tie.spec print-requires same_length same-length-2 returns)

@@ -1,7 +1,7 @@
 use borrow.Author.Rules.{rules}
 use Rattle.gateway.proofs.er7_redact.Statement.{statement}
 use Rattle.gateway.proofs.er7_redact.Tie as tie
-use Rattle.gateway.proofs.Laws.{returned-report}
+use Rattle.gateway.proofs.Laws.{returned_report}
 
 redact-requires : tie.Need-redact-requires
 redact-requires c κs = search rules
@@ -16,8 +16,8 @@ same-length-3 : tie.Need-same-length-3
 same-length-3 c = search rules
 
 returns : tie.Need-returns
-returns c = returned-report _ _ _ _ c.before.before.before.before.before.before.redact.ensures
+returns c = returned_report _ _ _ _ c.before.before.before.before.before.before.redact.ensures
 
-pub er7-redact-spec : {M : Type 1} → statement M
-er7-redact-spec =
+pub er7_redact_spec : {M : Type 1} → statement M
+er7_redact_spec =
     tie.close (tie.spec redact-requires same_length same-length-2 same-length-3 returns)

@@ -2,7 +2,7 @@ use Rattle.std.proofs.Common.{refl, rules}
 use Rattle.pseudonym.proofs.pseudonym.Statement.{statement}
 use Rattle.pseudonym.proofs.pseudonym.Tie as tie
 use Rattle.pseudonym.specs.Pseudonym.{pseudonym}
-use Rattle.pseudonym.proofs.Hashes.{key-then-value}
+use Rattle.pseudonym.proofs.Hashes.{key_then_value}
 
 slice-aggregate-eight-bytes-at : tie.Need-slice-aggregate-eight-bytes-at
 slice-aggregate-eight-bytes-at c = search rules
@@ -28,11 +28,11 @@ same_length c = search rules
 returns : tie.Need-returns
 unfolding pseudonym
 returns c =
-    let h = key-then-value _ _ _ _ _ _ _ refl c.before.before.before.before.before.before.before.before.eight-bytes-at.ensures c.before.before.before.before.before.fold.ensures c.before.before.before.before.fold2.ensures in
+    let h = key_then_value _ _ _ _ _ _ _ refl c.before.before.before.before.before.before.before.before.eight-bytes-at.ensures c.before.before.before.before.before.fold.ensures c.before.before.before.before.fold2.ensures in
     rw (← h) c.before.before.hexadecimal-at.ensures
 
-pub pseudonym-spec : {M : Type 1} → statement M
-pseudonym-spec =
+pub pseudonym_spec : {M : Type 1} → statement M
+pseudonym_spec =
     tie.close
     (tie.spec
     slice-aggregate-eight-bytes-at

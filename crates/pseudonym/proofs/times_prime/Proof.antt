@@ -12,5 +12,5 @@ wrapping-add-u64-requires c κs = search rules
 returns : tie.Need-returns
 returns c = c.wrapping-add-u64.ensures ∙ rw c.before.wrapping-mul.ensures (sum_low _)
 
-pub times-prime-spec : {M : Type 1} → statement M
-times-prime-spec = tie.close (tie.spec wrapping-mul-requires wrapping-add-u64-requires returns)
+pub times_prime_spec : {M : Type 1} → statement M
+times_prime_spec = tie.close (tie.spec wrapping-mul-requires wrapping-add-u64-requires returns)

@@ -108,8 +108,8 @@ returns-15 : tie.Need-returns-15
 unfolding number
 returns-15 c = rw c.enum-told15.given.1
 
-pub number-spec : {M : Type 1} → statement M
-number-spec =
+pub number_spec : {M : Type 1} → statement M
+number_spec =
     tie.close
     (tie.spec
     enum_told

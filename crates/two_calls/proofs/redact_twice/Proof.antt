@@ -1,7 +1,7 @@
 use borrow.Author.Rules.{rules}
 use Rattle.two_calls.proofs.redact_twice.Statement.{statement}
 use Rattle.two_calls.proofs.redact_twice.Tie as tie
-use Rattle.two_calls.proofs.Laws.{redacted-twice}
+use Rattle.two_calls.proofs.Laws.{redacted_twice}
 
 redact-requires : tie.Need-redact-requires
 redact-requires c κs = search rules
@@ -28,10 +28,10 @@ same-length-6 : tie.Need-same-length-6
 same-length-6 c = search rules
 
 returns : tie.Need-returns
-returns c = redacted-twice c.before.before.before.before.before.before.before.before.before.before.before.before.before.before.before.before.redact.ensures c.before.before.before.before.before.before.redact2.ensures
+returns c = redacted_twice c.before.before.before.before.before.before.before.before.before.before.before.before.before.before.before.before.redact.ensures c.before.before.before.before.before.before.redact2.ensures
 
-pub redact-twice-spec : {M : Type 1} → statement M
-redact-twice-spec =
+pub redact_twice_spec : {M : Type 1} → statement M
+redact_twice_spec =
     tie.close
     (tie.spec
     redact-requires

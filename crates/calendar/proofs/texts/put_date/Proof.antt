@@ -4,9 +4,9 @@ use borrow.Author.Rules.{rules}
 use native.Mathlib.Omega.{arith}
 use mathlib.Core.Path.{refl}
 use Prim.Native.Nat.{◌-◌, ◌≤◌}
-use Rattle.calendar.specs.Shift.{digit, dateText}
-use Rattle.text.proofs.Spelling.{Spelling, spelling-start}
-use Rattle.calendar.proofs.Digits.{spell-more, spell-end}
+use Rattle.calendar.specs.Shift.{digit, date_text}
+use Rattle.text.proofs.Spelling.{Spelling, spelling_start}
+use Rattle.calendar.proofs.Digits.{spell_more, spell_end}
 
 abbrev invariant-loop : tie.invariant-loop
 invariant-loop out₀ at m₀ i₀ out m i = (i ≤ 8) × Spelling 10 digit 8 m₀ out₀ at out (8 - i) m
@@ -18,7 +18,7 @@ stamp-of-requires : tie.Need-stamp-of-requires invariant-loop decreases-loop
 stamp-of-requires c κs = c.before.requires.1
 
 loop-holds : tie.Need-loop-init invariant-loop decreases-loop
-loop-holds c = (omega arith, spelling-start _ _ _ _ _ _)
+loop-holds c = (omega arith, spelling_start _ _ _ _ _ _)
 
 cast-out : tie.Need-overflow-cast-out invariant-loop decreases-loop
 cast-out c = search rules
@@ -43,7 +43,7 @@ loop-less c = search rules
 
 loop-again : tie.Need-loop-preserved invariant-loop decreases-loop
 unfolding digit
-loop-again c = (omega arith, spell-more _ _ (omega arith) c.before.loop.invariant.1 (omega arith) refl)
+loop-again c = (omega arith, spell_more _ _ (omega arith) c.before.loop.invariant.1 (omega arith) refl)
 
 add-result : tie.Need-overflow-add-result invariant-loop decreases-loop
 add-result c = search rules
@@ -52,11 +52,11 @@ same_length : tie.Need-same-length invariant-loop decreases-loop
 same_length c = search rules
 
 returns : tie.Need-returns invariant-loop decreases-loop
-unfolding dateText
-returns c = spell-end c.before.before.stamp-of.ensures (omega arith) c.before.loop.invariant.1 (omega arith)
+unfolding date_text
+returns c = spell_end c.before.before.stamp-of.ensures (omega arith) c.before.loop.invariant.1 (omega arith)
 
-pub put-date-spec : {M : Type 1} → statement M
-put-date-spec =
+pub put_date_spec : {M : Type 1} → statement M
+put_date_spec =
     tie.close
     (tie.spec
     invariant-loop

@@ -5,18 +5,18 @@ use mir.Syntax.{w64}
 use mir.ValLaws.{to_z-of_z}
 use mathlib.Core.Path.{sym, ap}
 use lib.ListN.{length}
-use Rattle.calendar.proofs.TextLaws.{moved_told, cleared-is, shifted-long}
+use Rattle.calendar.proofs.TextLaws.{moved_told, cleared_is, shifted_long}
 
 is-moved-requires : tie.Need-is-moved-requires
 is-moved-requires c κs = search rules
 
 returns : tie.Need-returns
 returns c = let s = c.before.before.before in
-    sym (shifted-long _ _ (moved_told _ (to_z-of_z w64 s.args.n s.ranges.n) c.before.is-moved.ensures c.if1.true))
+    sym (shifted_long _ _ (moved_told _ (to_z-of_z w64 s.args.n s.ranges.n) c.before.is-moved.ensures c.if1.true))
 
 returns-2 : tie.Need-returns-2
 returns-2 c = let s = c.before.before.before in
-    sym (ap length (cleared-is _ _ (moved_told _ (to_z-of_z w64 s.args.n s.ranges.n) c.before.is-moved.ensures c.if1.false)))
+    sym (ap length (cleared_is _ _ (moved_told _ (to_z-of_z w64 s.args.n s.ranges.n) c.before.is-moved.ensures c.if1.false)))
 
-pub shifted-len-spec : {M : Type 1} → statement M
-shifted-len-spec = tie.close (tie.spec is-moved-requires returns returns-2)
+pub shifted_len_spec : {M : Type 1} → statement M
+shifted_len_spec = tie.close (tie.spec is-moved-requires returns returns-2)

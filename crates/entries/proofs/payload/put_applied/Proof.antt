@@ -3,7 +3,7 @@ use Rattle.entries.proofs.payload.put_applied.Statement.{statement}
 use Rattle.entries.proofs.payload.put_applied.Tie as tie
 use mathlib.Core.Path.{sym, ◌∙◌}
 use native.Mathlib.Omega.{arith}
-use Rattle.entries.proofs.Payloads.{written-or, nothing-or}
+use Rattle.entries.proofs.Payloads.{written_or_lem, nothing_or}
 
 applied-len-requires : tie.Need-applied-len-requires
 applied-len-requires c κs = search rules
@@ -28,7 +28,7 @@ same_length c = search rules
 returns : tie.Need-returns
 returns c =
     let s = c.before.before.before.before.before.before.before.before.before.before in
-    rw (written-or _ s.args.payload.now (sym (c.before.before.before.before.before.before.applied-len.ensures s.args.policy.now s.args.key s.requires.0) ∙ c.before.before.before.before.enum_told.given.1)) c.before.before.apply.ensures
+    rw (written_or_lem _ s.args.payload.now (sym (c.before.before.before.before.before.before.applied-len.ensures s.args.policy.now s.args.key s.requires.0) ∙ c.before.before.before.before.enum_told.given.1)) c.before.before.apply.ensures
 
 same-length-2 : tie.Need-same-length-2
 same-length-2 c = search rules
@@ -36,10 +36,10 @@ same-length-2 c = search rules
 returns-2 : tie.Need-returns-2
 returns-2 c =
     let s = c.before.before.before.before.before.before.before.before.before.before in
-    rw (nothing-or _ s.args.payload.now (sym (c.before.before.before.before.before.before.applied-len.ensures s.args.policy.now s.args.key s.requires.0) ∙ c.before.before.before.before.enum-told2.given.1)) c.before.before.copy_at.ensures
+    rw (nothing_or _ s.args.payload.now (sym (c.before.before.before.before.before.before.applied-len.ensures s.args.policy.now s.args.key s.requires.0) ∙ c.before.before.before.before.enum-told2.given.1)) c.before.before.copy_at.ensures
 
-pub put-applied-spec : {M : Type 1} → statement M
-put-applied-spec =
+pub put_applied_spec : {M : Type 1} → statement M
+put_applied_spec =
     tie.close
     (tie.spec
     applied-len-requires

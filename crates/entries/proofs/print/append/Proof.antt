@@ -3,9 +3,9 @@ use borrow.Author.Rules.{rules}
 use Rattle.entries.proofs.print.append.Statement.{statement}
 use Rattle.entries.proofs.print.append.Tie as tie
 use mathlib.Core.Path.{sym, ◌∙◌}
-use Rattle.run_model.specs.Entries.{appendAnswer, appendOutcome}
-use Rattle.entries.proofs.Outcomes.{same-lent, wide-output, with-short, with-wide}
-use Rattle.entries.proofs.Printing.{written_in, appended-answer}
+use Rattle.run_model.specs.Entries.{append_answer, append_outcome}
+use Rattle.entries.proofs.Outcomes.{same_lent, wide_output, with_short, with_wide}
+use Rattle.entries.proofs.Printing.{written_in, appended_answer}
 
 is-short-requires : tie.Need-is-short-requires
 is-short-requires c κs = search rules
@@ -20,11 +20,11 @@ same-length-2 : tie.Need-same-length-2
 same-length-2 c = search rules
 
 returns : tie.Need-returns
-unfolding appendOutcome appendAnswer
-returns c = c.before.before.before.before.refuse.ensures ∙ with-short _ _ (sym c.before.before.before.before.before.before.before.before.is-short.ensures ∙ c.before.before.before.before.before.before.before.if1.true)
+unfolding append_outcome append_answer
+returns c = c.before.before.before.before.refuse.ensures ∙ with_short _ _ (sym c.before.before.before.before.before.before.before.before.is-short.ensures ∙ c.before.before.before.before.before.before.before.if1.true)
 
 append-requires : tie.Need-append-requires
-append-requires c κs = omega (arith, wide-output _ _ (sym c.before.before.is-short.ensures ∙ c.before.if1.false))
+append-requires c κs = omega (arith, wide_output _ _ (sym c.before.before.is-short.ensures ∙ c.before.if1.false))
 
 answer-requires : tie.Need-answer-requires
 answer-requires c κs = written_in _ c.before.before.before.before.append.ensures c.before.before.before.before.append.auto.1.1.0
@@ -36,11 +36,11 @@ same-length-4 : tie.Need-same-length-4
 same-length-4 c = search rules
 
 returns-2 : tie.Need-returns-2
-unfolding appendOutcome appendAnswer
-returns-2 c = c.before.before.before.before.answer.ensures _ _ c.before.before.before.before.before.before.before.before.before.append.ensures ∙ same-lent _ _ c.before.before.before.before.before.before.before.before.before.append.auto.1.1.0 ∙ with-wide _ _ (sym c.before.before.before.before.before.before.before.before.before.before.before.before.is-short.ensures ∙ c.before.before.before.before.before.before.before.before.before.before.before.if1.false) (sym (appended-answer _ _))
+unfolding append_outcome append_answer
+returns-2 c = c.before.before.before.before.answer.ensures _ _ c.before.before.before.before.before.before.before.before.before.append.ensures ∙ same_lent _ _ c.before.before.before.before.before.before.before.before.before.append.auto.1.1.0 ∙ with_wide _ _ (sym c.before.before.before.before.before.before.before.before.before.before.before.before.is-short.ensures ∙ c.before.before.before.before.before.before.before.before.before.before.before.if1.false) (sym (appended_answer _ _))
 
-pub append-spec : {M : Type 1} → statement M
-append-spec =
+pub append_spec : {M : Type 1} → statement M
+append_spec =
     tie.close
     (tie.spec
     is-short-requires

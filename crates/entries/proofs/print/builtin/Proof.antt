@@ -3,9 +3,9 @@ use borrow.Author.Rules.{rules}
 use Rattle.entries.proofs.print.builtin.Statement.{statement}
 use Rattle.entries.proofs.print.builtin.Tie as tie
 use mathlib.Core.Path.{sym, ◌∙◌}
-use Rattle.run_model.specs.Entries.{builtinAnswer, builtinOutcome}
-use Rattle.entries.proofs.Outcomes.{same-lent, wide-output, with-short, with-wide}
-use Rattle.entries.proofs.Printing.{written_in, builtin-answer}
+use Rattle.run_model.specs.Entries.{builtin_answer, builtin_outcome}
+use Rattle.entries.proofs.Outcomes.{same_lent, wide_output, with_short, with_wide}
+use Rattle.entries.proofs.Printing.{written_in, builtin_answer_lem}
 
 is-short-requires : tie.Need-is-short-requires
 is-short-requires c κs = search rules
@@ -20,11 +20,11 @@ same-length-2 : tie.Need-same-length-2
 same-length-2 c = search rules
 
 returns : tie.Need-returns
-unfolding builtinOutcome builtinAnswer
-returns c = c.before.before.before.before.refuse.ensures ∙ with-short _ _ (sym c.before.before.before.before.before.before.before.before.is-short.ensures ∙ c.before.before.before.before.before.before.before.if1.true)
+unfolding builtin_outcome builtin_answer
+returns c = c.before.before.before.before.refuse.ensures ∙ with_short _ _ (sym c.before.before.before.before.before.before.before.before.is-short.ensures ∙ c.before.before.before.before.before.before.before.if1.true)
 
 builtin-requires : tie.Need-builtin-requires
-builtin-requires c κs = omega (arith, wide-output _ _ (sym c.before.before.is-short.ensures ∙ c.before.if1.false))
+builtin-requires c κs = omega (arith, wide_output _ _ (sym c.before.before.is-short.ensures ∙ c.before.if1.false))
 
 answer-requires : tie.Need-answer-requires
 answer-requires c κs = written_in _ c.before.before.before.before.builtin.ensures c.before.before.before.before.builtin.auto.1.0
@@ -36,11 +36,11 @@ same-length-4 : tie.Need-same-length-4
 same-length-4 c = search rules
 
 returns-2 : tie.Need-returns-2
-unfolding builtinOutcome builtinAnswer
-returns-2 c = c.before.before.before.before.answer.ensures _ _ c.before.before.before.before.before.before.before.before.before.builtin.ensures ∙ same-lent _ _ c.before.before.before.before.before.before.before.before.before.builtin.auto.1.0 ∙ with-wide _ _ (sym c.before.before.before.before.before.before.before.before.before.before.before.before.is-short.ensures ∙ c.before.before.before.before.before.before.before.before.before.before.before.if1.false) (sym (builtin-answer _))
+unfolding builtin_outcome builtin_answer
+returns-2 c = c.before.before.before.before.answer.ensures _ _ c.before.before.before.before.before.before.before.before.before.builtin.ensures ∙ same_lent _ _ c.before.before.before.before.before.before.before.before.before.builtin.auto.1.0 ∙ with_wide _ _ (sym c.before.before.before.before.before.before.before.before.before.before.before.before.is-short.ensures ∙ c.before.before.before.before.before.before.before.before.before.before.before.if1.false) (sym (builtin_answer_lem _))
 
-pub builtin-spec : {M : Type 1} → statement M
-builtin-spec =
+pub builtin_spec : {M : Type 1} → statement M
+builtin_spec =
     tie.close
     (tie.spec
     is-short-requires

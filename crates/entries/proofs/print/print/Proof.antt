@@ -3,8 +3,8 @@ use borrow.Author.Rules.{rules}
 use Rattle.entries.proofs.print.print.Statement.{statement}
 use Rattle.entries.proofs.print.print.Tie as tie
 use mathlib.Core.Path.{refl, sym, ◌∙◌}
-use Rattle.run_model.specs.Entries.{printAnswer, printOutcome}
-use Rattle.entries.proofs.Outcomes.{same-lent, wide-output, with-short, with-wide}
+use Rattle.run_model.specs.Entries.{print_answer, print_outcome}
+use Rattle.entries.proofs.Outcomes.{same_lent, wide_output, with_short, with_wide}
 use Rattle.entries.proofs.Printing.{written_in}
 
 is-short-requires : tie.Need-is-short-requires
@@ -20,11 +20,11 @@ same-length-2 : tie.Need-same-length-2
 same-length-2 c = search rules
 
 returns : tie.Need-returns
-unfolding printOutcome printAnswer
-returns c = c.before.before.before.before.refuse.ensures ∙ with-short _ _ (sym c.before.before.before.before.before.before.before.before.is-short.ensures ∙ c.before.before.before.before.before.before.before.if1.true)
+unfolding print_outcome print_answer
+returns c = c.before.before.before.before.refuse.ensures ∙ with_short _ _ (sym c.before.before.before.before.before.before.before.before.is-short.ensures ∙ c.before.before.before.before.before.before.before.if1.true)
 
 print-text-requires : tie.Need-print-text-requires
-print-text-requires c κs = omega (arith, wide-output _ _ (sym c.before.before.is-short.ensures ∙ c.before.if1.false))
+print-text-requires c κs = omega (arith, wide_output _ _ (sym c.before.before.is-short.ensures ∙ c.before.if1.false))
 
 answer-requires : tie.Need-answer-requires
 answer-requires c κs = written_in _ c.before.before.before.before.print-text.ensures c.before.before.before.before.print-text.auto.1.0
@@ -36,11 +36,11 @@ same-length-4 : tie.Need-same-length-4
 same-length-4 c = search rules
 
 returns-2 : tie.Need-returns-2
-unfolding printOutcome printAnswer
-returns-2 c = c.before.before.before.before.answer.ensures _ _ c.before.before.before.before.before.before.before.before.before.print-text.ensures ∙ same-lent _ _ c.before.before.before.before.before.before.before.before.before.print-text.auto.1.0 ∙ with-wide _ _ (sym c.before.before.before.before.before.before.before.before.before.before.before.before.is-short.ensures ∙ c.before.before.before.before.before.before.before.before.before.before.before.if1.false) refl
+unfolding print_outcome print_answer
+returns-2 c = c.before.before.before.before.answer.ensures _ _ c.before.before.before.before.before.before.before.before.before.print-text.ensures ∙ same_lent _ _ c.before.before.before.before.before.before.before.before.before.print-text.auto.1.0 ∙ with_wide _ _ (sym c.before.before.before.before.before.before.before.before.before.before.before.before.is-short.ensures ∙ c.before.before.before.before.before.before.before.before.before.before.before.if1.false) refl
 
-pub print-spec : {M : Type 1} → statement M
-print-spec =
+pub print_spec : {M : Type 1} → statement M
+print_spec =
     tie.close
     (tie.spec
     is-short-requires

@@ -3,7 +3,7 @@ use Rattle.entries.proofs.returned.refuse.Statement.{statement}
 use Rattle.entries.proofs.returned.refuse.Tie as tie
 use Rattle.entries.proofs.returned.zero_behind.Reads as zero-behind-reads
 use Rattle.refusal.proofs.number.Reads as number-reads
-use Rattle.entries.proofs.Outcomes.{all-refused}
+use Rattle.entries.proofs.Outcomes.{all_refused}
 
 zero-behind-requires : tie.Need-zero-behind-requires
 zero-behind-requires c κs = search rules
@@ -18,8 +18,8 @@ same-length-2 : tie.Need-same-length-2
 same-length-2 c = search rules
 
 returns : tie.Need-returns
-returns c = all-refused _ _ _ _ c.before.before.before.before.before.zero-behind.ensures.0 c.before.before.before.before.before.zero-behind.ensures.1 c.number.ensures
+returns c = all_refused _ _ _ _ c.before.before.before.before.before.zero-behind.ensures.0 c.before.before.before.before.before.zero-behind.ensures.1 c.number.ensures
 
-pub refuse-spec : {M : Type 1} → statement M
-refuse-spec =
+pub refuse_spec : {M : Type 1} → statement M
+refuse_spec =
     tie.close (tie.spec zero-behind-requires number-requires same_length same-length-2 returns)

@@ -4,7 +4,7 @@ use Rattle.entries.proofs.returned.refuse_report.Tie as tie
 use Rattle.entries.proofs.returned.refuse.Reads as refuse-reads
 use Rattle.entries.proofs.returned.with_report.Reads as with-report-reads
 use Rattle.text.proofs.bytes.zero_from.Reads as zero-from-reads
-use Rattle.entries.proofs.Outcomes.{report-refused}
+use Rattle.entries.proofs.Outcomes.{report_refused}
 
 zero-from-requires : tie.Need-zero-from-requires
 zero-from-requires c κs = search rules
@@ -25,10 +25,10 @@ same-length-3 : tie.Need-same-length-3
 same-length-3 c = search rules
 
 returns : tie.Need-returns
-returns c = report-refused _ _ _ _ _ _ _ _ c.with-report.ensures c.before.before.before.before.before.refuse.ensures c.before.before.before.before.before.before.before.before.before.before.zero-from.ensures
+returns c = report_refused _ _ _ _ _ _ _ _ c.with-report.ensures c.before.before.before.before.before.refuse.ensures c.before.before.before.before.before.before.before.before.before.before.zero-from.ensures
 
-pub refuse-report-spec : {M : Type 1} → statement M
-refuse-report-spec =
+pub refuse_report_spec : {M : Type 1} → statement M
+refuse_report_spec =
     tie.close
     (tie.spec
     zero-from-requires

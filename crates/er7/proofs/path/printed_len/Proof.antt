@@ -2,7 +2,7 @@ use borrow.Author.Rules.{rules}
 use Rattle.er7.proofs.path.printed_len.Statement.{statement}
 use Rattle.er7.proofs.path.printed_len.Tie as tie
 use native.Mathlib.Omega.{arith}
-use Rattle.er7.proofs.PrintedPaths.{path-length}
+use Rattle.er7.proofs.PrintedPaths.{path_length}
 
 brackets-len-requires : tie.Need-brackets-len-requires
 brackets-len-requires c κs = search rules
@@ -35,10 +35,10 @@ add-result-2 : tie.Need-overflow-add-result-2
 add-result-2 c = search rules
 
 returns : tie.Need-returns
-returns c = omega (arith, path-length c.before.before.before.before.before.before.before.args.text.now c.before.before.before.before.before.before.before.args.p c.before.before.before.before.before.before.before.requires, c.before.before.before.behind-len.ensures.0 0x2d, c.before.before.behind-len2.ensures.0 0x2e, c.before.behind-len3.ensures.0 0x2e)
+returns c = omega (arith, path_length c.before.before.before.before.before.before.before.args.text.now c.before.before.before.before.before.before.before.args.p c.before.before.before.before.before.before.before.requires, c.before.before.before.behind-len.ensures.0 0x2d, c.before.before.behind-len2.ensures.0 0x2e, c.before.behind-len3.ensures.0 0x2e)
 
-pub printed-len-spec : {M : Type 1} → statement M
-printed-len-spec =
+pub printed_len_spec : {M : Type 1} → statement M
+printed_len_spec =
     tie.close
     (tie.spec
     brackets-len-requires

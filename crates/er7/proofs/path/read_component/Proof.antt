@@ -1,9 +1,9 @@
 use borrow.Author.Rules.{rules}
 use Rattle.er7.proofs.path.read_component.Statement.{statement}
 use Rattle.er7.proofs.path.read_component.Tie as tie
-use Rattle.text.proofs.Decimals.{known, known-end}
-use Rattle.er7.proofs.Paths.{then-taken, then-refused}
-use Rattle.er7.specs.Path.{readComponent}
+use Rattle.text.proofs.Decimals.{known, known_end}
+use Rattle.er7.proofs.Paths.{then_taken, then_refused}
+use Rattle.er7.specs.Path.{read_component}
 
 take-step-requires : tie.Need-take-step-requires
 take-step-requires c κs = search rules
@@ -12,21 +12,21 @@ enum-known-n : tie.Need-enum-known-n
 enum-known-n c = search rules
 
 read-subcomponent-requires : tie.Need-read-subcomponent-requires
-read-subcomponent-requires c κs = known-end c.before.before.before.take_step.ensures c.before.n.given.1
+read-subcomponent-requires c κs = known_end c.before.before.before.take_step.ensures c.before.n.given.1
 
 enum_told : tie.Need-enum-told
 enum_told c = search rules
 
 returns : tie.Need-returns
-unfolding readComponent
-returns c = then-taken _ (known c.before.before.before.before.take_step.ensures c.before.before.n.given.1) c.read-subcomponent.ensures
+unfolding read_component
+returns c = then_taken _ (known c.before.before.before.before.take_step.ensures c.before.before.n.given.1) c.read-subcomponent.ensures
 
 returns-2 : tie.Need-returns-2
-unfolding readComponent
-returns-2 c = then-refused _ (known c.before.before.take_step.ensures c.enum_told.given.1)
+unfolding read_component
+returns-2 c = then_refused _ (known c.before.before.take_step.ensures c.enum_told.given.1)
 
-pub read-component-spec : {M : Type 1} → statement M
-read-component-spec =
+pub read_component_spec : {M : Type 1} → statement M
+read_component_spec =
     tie.close
     (tie.spec
     take-step-requires

@@ -2,17 +2,17 @@ use borrow.Author.Rules.{rules}
 use Rattle.er7.proofs.path.take_occurrence.Statement.{statement}
 use Rattle.er7.proofs.path.take_occurrence.Tie as tie
 use native.Mathlib.Omega.{arith}
-use Rattle.text.proofs.Decimals.{known, known-end}
-use Rattle.er7.proofs.Paths.{occurrence-end, occurrence-no, occurrence-bad, occurrence-yes}
+use Rattle.text.proofs.Decimals.{known, known_end}
+use Rattle.er7.proofs.Paths.{occurrence_end, occurrence_no, occurrence_bad, occurrence_yes}
 
 returns : tie.Need-returns
-returns c = occurrence-end _ _ c.if1.true
+returns c = occurrence_end _ _ c.if1.true
 
 shared-slice-read-if2 : tie.Need-shared-slice-read-if2
 shared-slice-read-if2 c = search rules
 
 returns-2 : tie.Need-returns-2
-returns-2 c = occurrence-no _ _ (omega arith) c.if2.true
+returns-2 c = occurrence_no _ _ (omega arith) c.if2.true
 
 add-take-index : tie.Need-overflow-add-take-index
 add-take-index c = search rules
@@ -24,19 +24,19 @@ enum-known-n : tie.Need-enum-known-n
 enum-known-n c = search rules
 
 close-bracket-requires : tie.Need-close-bracket-requires
-close-bracket-requires c κs = known-end c.before.before.before.take-index.ensures c.before.n.given.1
+close-bracket-requires c κs = known_end c.before.before.before.take-index.ensures c.before.n.given.1
 
 enum_told : tie.Need-enum-told
 enum_told c = search rules
 
 returns-3 : tie.Need-returns-3
-returns-3 c = occurrence-yes _ _ _ _ _ (omega arith) c.before.before.before.before.before.if2.false (known c.before.before.before.before.take-index.ensures c.before.before.n.given.1) c.close-bracket.ensures
+returns-3 c = occurrence_yes _ _ _ _ _ (omega arith) c.before.before.before.before.before.if2.false (known c.before.before.before.before.take-index.ensures c.before.before.n.given.1) c.close-bracket.ensures
 
 returns-4 : tie.Need-returns-4
-returns-4 c = occurrence-bad _ _ (omega arith) c.before.before.before.if2.false (known c.before.before.take-index.ensures c.enum_told.given.1)
+returns-4 c = occurrence_bad _ _ (omega arith) c.before.before.before.if2.false (known c.before.before.take-index.ensures c.enum_told.given.1)
 
-pub take-occurrence-spec : {M : Type 1} → statement M
-take-occurrence-spec =
+pub take_occurrence_spec : {M : Type 1} → statement M
+take_occurrence_spec =
     tie.close
     (tie.spec
     returns

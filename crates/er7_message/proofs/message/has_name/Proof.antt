@@ -2,7 +2,7 @@ use Rattle.er7_message.proofs.message.has_name.Statement.{statement}
 use Rattle.er7_message.proofs.message.has_name.Tie as tie
 use borrow.Author.Rules.{rules}
 use Rattle.er7_table.specs.Table.{cell}
-use Rattle.er7_message.proofs.Names.{has-name}
+use Rattle.er7_message.proofs.Names.{has_name}
 
 mul_at : tie.Need-overflow-mul-at
 mul_at c = search rules
@@ -36,10 +36,10 @@ element-copy-out-result-3 c = search rules
 
 returns : tie.Need-returns
 unfolding cell
-returns c = has-name _ _ _ _ _
+returns c = has_name _ _ _ _ _
 
-pub has-name-spec : {M : Type 1} → statement M
-has-name-spec =
+pub has_name_spec : {M : Type 1} → statement M
+has_name_spec =
     tie.close
     (tie.spec
     mul_at

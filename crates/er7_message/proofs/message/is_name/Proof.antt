@@ -1,7 +1,7 @@
 use Rattle.er7_message.proofs.message.is_name.Statement.{statement}
 use Rattle.er7_message.proofs.message.is_name.Tie as tie
 use borrow.Author.Rules.{rules}
-use Rattle.er7_message.proofs.Names.{name-is}
+use Rattle.er7_message.proofs.Names.{name_is}
 
 shared-slice-read-is-name-byte : tie.Need-shared-slice-read-is-name-byte
 shared-slice-read-is-name-byte c = search rules
@@ -34,10 +34,10 @@ is-header-name-requires : tie.Need-is-header-name-requires
 is-header-name-requires c κs = search rules
 
 returns : tie.Need-returns
-returns c = name-is _ c.before.before.before.before.before.before.before.before.before.before.before.requires c.before.before.before.before.before.before.before.before.is-name-byte.ensures c.before.before.before.before.before.before.is-name-byte2.ensures c.before.before.before.before.is-name-byte3.ensures c.is-header-name.ensures
+returns c = name_is _ c.before.before.before.before.before.before.before.before.before.before.before.requires c.before.before.before.before.before.before.before.before.is-name-byte.ensures c.before.before.before.before.before.before.is-name-byte2.ensures c.before.before.before.before.is-name-byte3.ensures c.is-header-name.ensures
 
-pub is-name-spec : {M : Type 1} → statement M
-is-name-spec =
+pub is_name_spec : {M : Type 1} → statement M
+is_name_spec =
     tie.close
     (tie.spec
     shared-slice-read-is-name-byte

@@ -5,7 +5,7 @@ use mathlib.Core.List.{[], ◌∷◌}
 use Prim.Native.Nat.{◌-◌}
 use native.Mathlib.Omega.{arith}
 use Rattle.er7_table.specs.Table.{cell}
-use Rattle.er7_message.proofs.Names.{Looking, looking-start, looking-more, looking-found, looking-none, number-most}
+use Rattle.er7_message.proofs.Names.{Looking, looking_start, looking_more, looking_found, looking_none, number_most}
 
 abbrev invariant-loop : tie.invariant-loop
 invariant-loop segs k a b c j₀ j = Looking segs (a ∷ b ∷ c ∷ []) k j
@@ -14,7 +14,7 @@ abbrev decreases-loop : tie.decreases-loop
 decreases-loop segs k a b c j₀ j = j
 
 loop-holds : tie.Need-loop-init invariant-loop decreases-loop
-loop-holds c = looking-start _ _ _
+loop-holds c = looking_start _ _ _
 
 sub-has-name : tie.Need-overflow-sub-has-name invariant-loop decreases-loop
 sub-has-name c = search rules
@@ -39,11 +39,11 @@ element-copy-out-result c = search rules
 
 add-result-2 : tie.Need-overflow-add-result-2 invariant-loop decreases-loop
 unfolding cell
-add-result-2 c = search (rules, number-most c.before.before.before.before.before.requires.1 (c.before.before.before.before.loop.j - 1) (omega (arith, c.before.before.before.before.loop.invariant.high)), c.before.before.before.before.loop.invariant.high)
+add-result-2 c = search (rules, number_most c.before.before.before.before.before.requires.1 (c.before.before.before.before.loop.j - 1) (omega (arith, c.before.before.before.before.loop.invariant.high)), c.before.before.before.before.loop.invariant.high)
 
 returns : tie.Need-returns invariant-loop decreases-loop
 unfolding cell
-returns c = looking-found c.before.before.before.before.loop.invariant (omega arith) c.before.before.has-name.ensures c.before.before.before.before.before.requires.1 c.before.if1.true
+returns c = looking_found c.before.before.before.before.loop.invariant (omega arith) c.before.before.has-name.ensures c.before.before.before.before.before.requires.1 c.before.if1.true
 
 sub-j : tie.Need-overflow-sub-j invariant-loop decreases-loop
 sub-j c = search rules
@@ -52,13 +52,13 @@ loop-less : tie.Need-loop-smaller invariant-loop decreases-loop
 loop-less c = search rules
 
 loop-again : tie.Need-loop-preserved invariant-loop decreases-loop
-loop-again c = looking-more c.before.before.before.loop.invariant (omega arith) c.before.has-name.ensures c.if1.false
+loop-again c = looking_more c.before.before.before.loop.invariant (omega arith) c.before.has-name.ensures c.if1.false
 
 returns-2 : tie.Need-returns-2 invariant-loop decreases-loop
-returns-2 c = looking-none c.before.loop.invariant (omega arith)
+returns-2 c = looking_none c.before.loop.invariant (omega arith)
 
-pub occurrence-spec : {M : Type 1} → statement M
-occurrence-spec =
+pub occurrence_spec : {M : Type 1} → statement M
+occurrence_spec =
     tie.close
     (tie.spec
     invariant-loop

@@ -2,12 +2,12 @@ use Rattle.er7_message.proofs.message.read_behind.Statement.{statement}
 use Rattle.er7_message.proofs.message.read_behind.Tie as tie
 use borrow.Author.Rules.{rules}
 use native.Mathlib.Omega.{arith}
-use Rattle.er7_message.proofs.Segments.{next-at, field-within, within-behind, behind-none, behind-some}
+use Rattle.er7_message.proofs.Segments.{next_at, field_within, within_behind, behind_none, behind_some}
 use lib.ListN.{length-take}
-use Rattle.er7_message.proofs.Reading.{room-front}
+use Rattle.er7_message.proofs.Reading.{room_front}
 
 returns : tie.Need-returns
-returns c = behind-none _ _ _ _ _ _ _ c.if1.true (omega arith) (omega arith)
+returns c = behind_none _ _ _ _ _ _ _ c.if1.true (omega arith) (omega arith)
 
 shared-slice-read-next : tie.Need-shared-slice-read-next
 shared-slice-read-next c = search rules
@@ -16,7 +16,7 @@ at-field-requires : tie.Need-at-field-requires
 at-field-requires c κs = search rules
 
 next-requires : tie.Need-next-requires
-next-requires c κs = field-within _ _ c.at_field.ensures (omega arith) (omega arith)
+next-requires c κs = field_within _ _ c.at_field.ensures (omega arith) (omega arith)
 
 sub-read-leaves : tie.Need-overflow-sub-read-leaves
 sub-read-leaves c = search rules
@@ -31,16 +31,16 @@ add-read-leaves : tie.Need-overflow-add-read-leaves
 add-read-leaves c = search rules
 
 read-leaves-requires : tie.Need-read-leaves-requires
-read-leaves-requires c κs = (search rules, search rules, omega arith, room-front c.before.before.before.before.before.before.before.before.requires.6 (simp length-take (omega arith)), within-behind _ _ _ _ (next-at _ _ _ c.before.before.next.ensures c.before.before.before.at_field.ensures) (omega arith) (omega arith))
+read-leaves-requires c κs = (search rules, search rules, omega arith, room_front c.before.before.before.before.before.before.before.before.requires.6 (simp length-take (omega arith)), within_behind _ _ _ _ (next_at _ _ _ c.before.before.next.ensures c.before.before.before.at_field.ensures) (omega arith) (omega arith))
 
 same_length : tie.Need-same-length
 same_length c = search rules
 
 returns-2 : tie.Need-returns-2
-returns-2 c = behind-some c.before.before.before.before.before.before.before.before.before.before.before.args.s c.before.before.before.before.before.before.before.before.before.before.before.args.text.now c.before.before.before.before.before.before.before.before.before.before.before.args.from c.before.before.before.before.before.before.before.before.before.before.before.args.end c.before.before.before.before.before.before.before.before.before.before.before.args.field c.before.before.before.before.before.before.before.before.before.before.before.args.n _ (omega arith) (omega arith) (next-at _ _ _ c.before.before.before.before.before.next.ensures c.before.before.before.before.before.before.at_field.ensures) c.before.before.read-leaves.ensures
+returns-2 c = behind_some c.before.before.before.before.before.before.before.before.before.before.before.args.s c.before.before.before.before.before.before.before.before.before.before.before.args.text.now c.before.before.before.before.before.before.before.before.before.before.before.args.from c.before.before.before.before.before.before.before.before.before.before.before.args.end c.before.before.before.before.before.before.before.before.before.before.before.args.field c.before.before.before.before.before.before.before.before.before.before.before.args.n _ (omega arith) (omega arith) (next_at _ _ _ c.before.before.before.before.before.next.ensures c.before.before.before.before.before.before.at_field.ensures) c.before.before.read-leaves.ensures
 
-pub read-behind-spec : {M : Type 1} → statement M
-read-behind-spec =
+pub read_behind_spec : {M : Type 1} → statement M
+read_behind_spec =
     tie.close
     (tie.spec
     returns

@@ -2,8 +2,8 @@ use Rattle.er7_message.proofs.message.read_header.Statement.{statement}
 use Rattle.er7_message.proofs.message.read_header.Tie as tie
 use borrow.Author.Rules.{rules}
 use native.Mathlib.Omega.{arith}
-use Rattle.er7_message.proofs.Segments.{put-at, header-too-many, header-fits}
-use Rattle.er7_message.proofs.Reading.{room-kept}
+use Rattle.er7_message.proofs.Segments.{put_at, header_too_many, header_fits}
+use Rattle.er7_message.proofs.Reading.{room_kept}
 
 at-field-requires : tie.Need-at-field-requires
 at-field-requires c κs = search rules
@@ -18,13 +18,13 @@ put-leaf-requires-2 : tie.Need-put-leaf-requires-2
 put-leaf-requires-2 c κs = search (rules, c.before.before.before.before.before.before.before.before.before.requires.3.room 1 (omega arith) (omega (arith, c.before.before.before.before.before.before.before.before.before.requires.0, c.before.before.before.before.before.before.before.before.before.requires.1)))
 
 read-behind-requires : tie.Need-read-behind-requires
-read-behind-requires c κs = (omega arith, omega arith, c.before.before.before.before.before.before.before.before.before.before.before.before.before.requires.0, c.before.before.before.before.before.before.before.before.before.before.before.before.before.requires.1, omega arith, omega arith, room-kept c.before.before.before.before.before.before.before.before.before.before.before.before.before.requires.3 (search rules))
+read-behind-requires c κs = (omega arith, omega arith, c.before.before.before.before.before.before.before.before.before.before.before.before.before.requires.0, c.before.before.before.before.before.before.before.before.before.before.before.before.before.requires.1, omega arith, omega arith, room_kept c.before.before.before.before.before.before.before.before.before.before.before.before.before.requires.3 (search rules))
 
 same_length : tie.Need-same-length
 same_length c = search rules
 
 returns : tie.Need-returns
-returns c = header-too-many _ _ _ c.before.before.before.before.before.before.before.before.before.before.before.before.before.before.before.before.before.requires.0 c.before.before.before.before.before.before.before.before.before.before.before.before.before.before.before.before.before.requires.1 c.before.before.before.before.before.before.before.before.before.before.before.before.before.before.before.before.before.requires.2 c.before.before.before.before.before.before.before.before.before.before.before.before.before.before.before.before.before.requires.4 (put-at 1 c.before.before.before.before.before.before.before.before.before.before.before.before.before.at_field.ensures c.before.before.before.before.before.before.before.before.before.before.before.before.put-leaf.ensures) (put-at 2 c.before.before.before.before.before.before.before.before.at-field2.ensures c.before.before.before.before.before.before.before.put-leaf2.ensures) c.before.before.before.read_behind.ensures _ _ (omega arith)
+returns c = header_too_many _ _ _ c.before.before.before.before.before.before.before.before.before.before.before.before.before.before.before.before.before.requires.0 c.before.before.before.before.before.before.before.before.before.before.before.before.before.before.before.before.before.requires.1 c.before.before.before.before.before.before.before.before.before.before.before.before.before.before.before.before.before.requires.2 c.before.before.before.before.before.before.before.before.before.before.before.before.before.before.before.before.before.requires.4 (put_at 1 c.before.before.before.before.before.before.before.before.before.before.before.before.before.at_field.ensures c.before.before.before.before.before.before.before.before.before.before.before.before.put-leaf.ensures) (put_at 2 c.before.before.before.before.before.before.before.before.at-field2.ensures c.before.before.before.before.before.before.before.put-leaf2.ensures) c.before.before.before.read_behind.ensures _ _ (omega arith)
 
 shared-slice-read-a : tie.Need-shared-slice-read-a
 shared-slice-read-a c = search rules
@@ -51,10 +51,10 @@ same-length-2 : tie.Need-same-length-2
 same-length-2 c = search rules
 
 returns-2 : tie.Need-returns-2
-returns-2 c = header-fits _ _ _ c.before.before.before.before.before.before.before.before.before.before.before.before.before.before.before.before.before.before.before.before.before.before.requires.0 c.before.before.before.before.before.before.before.before.before.before.before.before.before.before.before.before.before.before.before.before.before.before.requires.1 c.before.before.before.before.before.before.before.before.before.before.before.before.before.before.before.before.before.before.before.before.before.before.requires.2 c.before.before.before.before.before.before.before.before.before.before.before.before.before.before.before.before.before.before.before.before.before.before.requires.4 (put-at 1 c.before.before.before.before.before.before.before.before.before.before.before.before.before.before.before.before.before.before.at_field.ensures c.before.before.before.before.before.before.before.before.before.before.before.before.before.before.before.before.before.put-leaf.ensures) (put-at 2 c.before.before.before.before.before.before.before.before.before.before.before.before.before.at-field2.ensures c.before.before.before.before.before.before.before.before.before.before.before.before.put-leaf2.ensures) c.before.before.before.before.before.before.before.before.read_behind.ensures (omega arith) c.put-segment.ensures
+returns-2 c = header_fits _ _ _ c.before.before.before.before.before.before.before.before.before.before.before.before.before.before.before.before.before.before.before.before.before.before.requires.0 c.before.before.before.before.before.before.before.before.before.before.before.before.before.before.before.before.before.before.before.before.before.before.requires.1 c.before.before.before.before.before.before.before.before.before.before.before.before.before.before.before.before.before.before.before.before.before.before.requires.2 c.before.before.before.before.before.before.before.before.before.before.before.before.before.before.before.before.before.before.before.before.before.before.requires.4 (put_at 1 c.before.before.before.before.before.before.before.before.before.before.before.before.before.before.before.before.before.before.at_field.ensures c.before.before.before.before.before.before.before.before.before.before.before.before.before.before.before.before.before.put-leaf.ensures) (put_at 2 c.before.before.before.before.before.before.before.before.before.before.before.before.before.at-field2.ensures c.before.before.before.before.before.before.before.before.before.before.before.before.put-leaf2.ensures) c.before.before.before.before.before.before.before.before.read_behind.ensures (omega arith) c.put-segment.ensures
 
-pub read-header-spec : {M : Type 1} → statement M
-read-header-spec =
+pub read_header_spec : {M : Type 1} → statement M
+read_header_spec =
     tie.close
     (tie.spec
     at-field-requires

@@ -3,10 +3,10 @@ use Rattle.er7_message.proofs.message.read_segment.Tie as tie
 use borrow.Author.Rules.{rules}
 use Prim.Native.Nat.{◌+◌}
 use native.Mathlib.Omega.{arith}
-use Rattle.er7_message.proofs.Segments.{segment-257, segment-too-many, segment-fits}
+use Rattle.er7_message.proofs.Segments.{segment_257, segment_too_many, segment_fits}
 
 returns : tie.Need-returns
-returns c = segment-257 _ _ _ _ _ _ _ _ _ _ c.if1.true
+returns c = segment_257 _ _ _ _ _ _ _ _ _ _ c.if1.true
 
 add-read-behind : tie.Need-overflow-add-read-behind
 add-read-behind c = search rules
@@ -18,7 +18,7 @@ same_length : tie.Need-same-length
 same_length c = search rules
 
 returns-2 : tie.Need-returns-2
-returns-2 c = segment-too-many _ _ _ _ _ _ _ _ c.before.before.before.before.before.before.before.before.requires.7 c.before.before.before.read_behind.ensures _ (omega arith)
+returns-2 c = segment_too_many _ _ _ _ _ _ _ _ c.before.before.before.before.before.before.before.before.requires.7 c.before.before.before.read_behind.ensures _ (omega arith)
 
 shared-slice-read-a : tie.Need-shared-slice-read-a
 shared-slice-read-a c = search rules
@@ -54,10 +54,10 @@ same-length-2 : tie.Need-same-length-2
 same-length-2 c = search rules
 
 returns-3 : tie.Need-returns-3
-returns-3 c = segment-fits _ _ _ _ _ _ _ _ c.before.before.before.before.before.before.before.before.before.before.before.before.before.before.before.requires.7 c.before.before.before.before.before.before.before.before.before.before.read_behind.ensures (omega arith) (omega arith) (omega arith) (omega arith) c.before.before.occurrence.ensures c.put-segment.ensures
+returns-3 c = segment_fits _ _ _ _ _ _ _ _ c.before.before.before.before.before.before.before.before.before.before.before.before.before.before.before.requires.7 c.before.before.before.before.before.before.before.before.before.before.read_behind.ensures (omega arith) (omega arith) (omega arith) (omega arith) c.before.before.occurrence.ensures c.put-segment.ensures
 
-pub read-segment-spec : {M : Type 1} → statement M
-read-segment-spec =
+pub read_segment_spec : {M : Type 1} → statement M
+read_segment_spec =
     tie.close
     (tie.spec
     returns

@@ -6,9 +6,9 @@ use native.Mathlib.Omega.{arith}
 use mir.Syntax.{w64}
 use mir.Val.{to_z, of_z}
 use lib.ListN.{length-replicate, length-take, length-drop}
-use Rattle.text.proofs.Spelling.{hexadecimal-length}
+use Rattle.text.proofs.Spelling.{hexadecimal_length}
 use Rattle.er7_redact.specs.declared.action.Applied.TheVariants.{Written}
-use Rattle.er7_redact.specs.Action.{apply, asAction, answer}
+use Rattle.er7_redact.specs.Action.{apply, as_action, answer}
 use Rattle.pseudonym.specs.Pseudonym as P
 
 enum_told : tie.Need-enum-told
@@ -51,47 +51,47 @@ shifted-len-requires : tie.Need-shifted-len-requires
 shifted-len-requires c κs = search rules
 
 returns : tie.Need-returns
-unfolding apply asAction answer
+unfolding apply as_action answer
 returns c = λ t key h. rw c.enum_told.given.1
 
 returns-2 : tie.Need-returns-2
-unfolding apply asAction answer
+unfolding apply as_action answer
 returns-2 c = λ t key h. rw c.enum-told2.given.1
 
 returns-3 : tie.Need-returns-3
-unfolding apply asAction answer
+unfolding apply as_action answer
 returns-3 c = λ t key h. rw c.enum-told3.given.1
 
 returns-4 : tie.Need-returns-4
-unfolding apply asAction answer
+unfolding apply as_action answer
 returns-4 c = λ t key h.
     let p = rw c.before.before.a.given.1 at h in
     rw c.before.before.a.given.1 (ap Written (c.replacement-len.ensures.0 t c.before.before.a.given.0.0 p))
 
 returns-5 : tie.Need-returns-5
-unfolding apply asAction answer
+unfolding apply as_action answer
 returns-5 c = λ t key h. rw (c.enum-told4.given.1, length-replicate)
 
 returns-6 : tie.Need-returns-6
-unfolding apply asAction answer
+unfolding apply as_action answer
 returns-6 c = λ t key h. rw (c.before.before.a2.given.1, length-take, c.kept-len.ensures)
 
 returns-7 : tie.Need-returns-7
-unfolding apply asAction answer
+unfolding apply as_action answer
 returns-7 c = λ t key h. rw c.before.before.a3.given.1 (ap Written (simp length-drop (omega (arith, c.kept-len2.ensures))))
 
 returns-8 : tie.Need-returns-8
-unfolding apply asAction answer P.pseudonym
-returns-8 c = λ t key h. rw (c.enum-told5.given.1, hexadecimal-length)
+unfolding apply as_action answer P.pseudonym
+returns-8 c = λ t key h. rw (c.enum-told5.given.1, hexadecimal_length)
 
 returns-9 : tie.Need-returns-9
-unfolding apply asAction answer
+unfolding apply as_action answer
 returns-9 c = λ t key h. let n = c.before.before.a4.given.0.0 in
     let i : to_z w64 (of_z w64 n) ≡ n = search rules in
     rw (c.before.before.a4.given.1, ← i) (ap Written c.shifted-len.ensures)
 
-pub applied-len-spec : {M : Type 1} → statement M
-applied-len-spec =
+pub applied_len_spec : {M : Type 1} → statement M
+applied_len_spec =
     tie.close
     (tie.spec
     enum_told

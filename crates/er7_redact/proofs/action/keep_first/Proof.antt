@@ -32,8 +32,8 @@ same-length-2 c = search rules
 returns-2 : tie.Need-returns-2
 returns-2 c = rw (take_all c.before.before.before.before.before.before.before.args.n c.before.before.before.before.before.before.before.args.value.now (omega arith)) c.before.before.copy-at2.ensures
 
-pub keep-first-spec : {M : Type 1} → statement M
-keep-first-spec =
+pub keep_first_spec : {M : Type 1} → statement M
+keep_first_spec =
     tie.close
     (tie.spec
     sub-copy-at

@@ -5,7 +5,7 @@ use native.Mathlib.Omega.{arith}
 use lib.ListN.{length}
 use Prim.Native.Nat.{◌-◌}
 use mathlib.Core.Path.{◌≡◌}
-use Rattle.text.proofs.Runs.{drop-slice}
+use Rattle.text.proofs.Runs.{drop_slice}
 
 sub-start : tie.Need-overflow-sub-start
 sub-start c = search rules
@@ -20,13 +20,13 @@ part-copy-at-end : tie.Need-slice-bounds-copy-at-end
 part-copy-at-end c = search rules
 
 copy-at-requires : tie.Need-copy-at-requires
-copy-at-requires c κs = rw (drop-slice c.before.before.before.before.before.args.value.now (length c.before.before.before.before.before.args.value.now - c.before.before.before.before.before.args.n)) (omega arith)
+copy-at-requires c κs = rw (drop_slice c.before.before.before.before.before.args.value.now (length c.before.before.before.before.before.args.value.now - c.before.before.before.before.before.args.n)) (omega arith)
 
 same_length : tie.Need-same-length
 same_length c = search rules
 
 returns : tie.Need-returns
-returns c = rw (drop-slice c.before.before.before.before.before.before.before.before.args.value.now (length c.before.before.before.before.before.before.before.before.args.value.now - c.before.before.before.before.before.before.before.before.args.n)) at c.before.before.copy_at.ensures
+returns c = rw (drop_slice c.before.before.before.before.before.before.before.before.args.value.now (length c.before.before.before.before.before.before.before.before.args.value.now - c.before.before.before.before.before.before.before.before.args.n)) at c.before.before.copy_at.ensures
 
 copy-at-requires-2 : tie.Need-copy-at-requires-2
 copy-at-requires-2 c κs =
@@ -41,8 +41,8 @@ returns-2 c =
     let z : length c.before.before.before.before.before.before.before.args.value.now - c.before.before.before.before.before.before.before.args.n ≡ 0 = omega arith in
     rw z c.before.before.copy-at2.ensures
 
-pub keep-last-spec : {M : Type 1} → statement M
-keep-last-spec =
+pub keep_last_spec : {M : Type 1} → statement M
+keep_last_spec =
     tie.close
     (tie.spec
     sub-start

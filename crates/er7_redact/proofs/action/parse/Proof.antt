@@ -1,7 +1,7 @@
 use borrow.Author.Rules.{rules}
 use Rattle.er7_redact.proofs.action.parse.Statement.{statement}
 use Rattle.er7_redact.proofs.action.parse.Tie as tie
-use Rattle.er7_redact.proofs.Actions.{action-read}
+use Rattle.er7_redact.proofs.Actions.{action_read}
 
 run-end-requires : tie.Need-run-end-requires
 run-end-requires c κs = search rules
@@ -25,10 +25,10 @@ read-argument-requires : tie.Need-read-argument-requires
 read-argument-requires c κs = search rules
 
 returns : tie.Need-returns
-returns c = action-read c.before.before.before.before.run-end.ensures c.before.before.before.run-end2.ensures _ c.before.verb-of.ensures c.read-argument.ensures
+returns c = action_read c.before.before.before.before.run-end.ensures c.before.before.before.run-end2.ensures _ c.before.verb-of.ensures c.read-argument.ensures
 
-pub parse-spec : {M : Type 1} → statement M
-parse-spec =
+pub parse_spec : {M : Type 1} → statement M
+parse_spec =
     tie.close
     (tie.spec
     run-end-requires

@@ -3,8 +3,8 @@ use Rattle.er7_redact.proofs.action.read_argument.Statement.{statement}
 use Rattle.er7_redact.proofs.action.read_argument.Tie as tie
 use mathlib.Core.Path.{refl, sym}
 use Rattle.er7_redact.specs.declared.action.Action.TheVariants as Held
-use Rattle.er7_redact.specs.Action.{keep, clear, null, pseudonym, first, last, heldAs, heldAction, refusalOf, readArgument}
-use Rattle.er7_redact.proofs.Actions.{by-verb, by_bare, by_count, by-days, replace-held}
+use Rattle.er7_redact.specs.Action.{keep, clear, null, pseudonym, first, last, held_as, held_action, refusal_of, read_argument}
+use Rattle.er7_redact.proofs.Actions.{by_verb, by_bare, by_count, by_days, replace_held}
 
 enum_told : tie.Need-enum-told
 enum_told c = search rules
@@ -82,46 +82,46 @@ enum-told-10 : tie.Need-enum-told-10
 enum-told-10 c = search rules
 
 returns : tie.Need-returns
-unfolding heldAs readArgument refusalOf
+unfolding held_as read_argument refusal_of
 returns c = by_bare _ _ _ c.before.enum_told.given.1 refl keep (λ u. refl) c.read-bare.ensures
 
 returns-2 : tie.Need-returns-2
-unfolding heldAs readArgument refusalOf
+unfolding held_as read_argument refusal_of
 returns-2 c = by_bare _ _ _ c.before.enum-told2.given.1 refl clear (λ u. refl) c.read-bare2.ensures
 
 returns-3 : tie.Need-returns-3
-unfolding heldAs readArgument refusalOf
+unfolding held_as read_argument refusal_of
 returns-3 c = by_bare _ _ _ c.before.enum-told3.given.1 refl null (λ u. refl) c.read-bare3.ensures
 
 returns-4 : tie.Need-returns-4
-unfolding heldAs readArgument refusalOf
+unfolding held_as read_argument refusal_of
 returns-4 c = by_bare _ _ _ c.before.enum-told4.given.1 refl pseudonym (λ u. refl) c.read-bare4.ensures
 
 returns-5 : tie.Need-returns-5
-unfolding readArgument refusalOf
-returns-5 c = by-verb _ _ _ c.enum-told5.given.1 refl (rw c.enum-told5.given.1 (replace-held c.before.before.before.args.s.now c.before.before.before.args.i _))
+unfolding read_argument refusal_of
+returns-5 c = by_verb _ _ _ c.enum-told5.given.1 refl (rw c.enum-told5.given.1 (replace_held c.before.before.before.args.s.now c.before.before.before.args.i _))
 
 returns-6 : tie.Need-returns-6
-unfolding readArgument refusalOf
-returns-6 c = by-verb _ _ _ c.before.enum-told6.given.1 refl (rw c.before.enum-told6.given.1 (c.read-mask.ensures _ _))
+unfolding read_argument refusal_of
+returns-6 c = by_verb _ _ _ c.before.enum-told6.given.1 refl (rw c.before.enum-told6.given.1 (c.read-mask.ensures _ _))
 
 returns-7 : tie.Need-returns-7
-unfolding heldAs readArgument refusalOf
+unfolding held_as read_argument refusal_of
 returns-7 c = by_count _ _ _ c.before.before.enum-told7.given.1 refl first Held.First (λ u. refl) (λ k. refl) c.before.read_count.ensures c.first_of.ensures
 
 returns-8 : tie.Need-returns-8
-unfolding heldAs readArgument refusalOf
+unfolding held_as read_argument refusal_of
 returns-8 c = by_count _ _ _ c.before.before.enum-told8.given.1 refl last Held.Last (λ u. refl) (λ k. refl) c.before.read-count2.ensures c.last_of.ensures
 
 returns-9 : tie.Need-returns-9
-returns-9 c = by-days _ _ c.before.before.before.before.enum-told9.given.1 c.before.before.before.is_negative.ensures c.before.before.without_sign.ensures c.before.read_whole.ensures c.shift_by_lem.ensures
+returns-9 c = by_days _ _ c.before.before.before.before.enum-told9.given.1 c.before.before.before.is_negative.ensures c.before.before.without_sign.ensures c.before.read_whole.ensures c.shift_by_lem.ensures
 
 returns-10 : tie.Need-returns-10
-unfolding heldAction readArgument refusalOf
-returns-10 c = by-verb _ _ _ c.enum-told10.given.1 refl (sym (rw c.enum-told10.given.1))
+unfolding held_action read_argument refusal_of
+returns-10 c = by_verb _ _ _ c.enum-told10.given.1 refl (sym (rw c.enum-told10.given.1))
 
-pub read-argument-spec : {M : Type 1} → statement M
-read-argument-spec =
+pub read_argument_spec : {M : Type 1} → statement M
+read_argument_spec =
     tie.close
     (tie.spec
     enum_told

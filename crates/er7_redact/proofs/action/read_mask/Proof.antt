@@ -2,10 +2,10 @@ use borrow.Author.Rules.{rules}
 use Rattle.er7_redact.proofs.action.read_mask.Statement.{statement}
 use Rattle.er7_redact.proofs.action.read_mask.Tie as tie
 use native.Mathlib.Omega.{arith}
-use Rattle.er7_redact.proofs.Actions.{mask-bare, mask_one, mask-more}
+use Rattle.er7_redact.proofs.Actions.{mask_bare, mask_one, mask_more}
 
 returns : tie.Need-returns
-returns c j n = mask-bare _ _ _ _ c.if1.true
+returns c j n = mask_bare _ _ _ _ c.if1.true
 
 add-if2 : tie.Need-overflow-add-if2
 add-if2 c = search rules
@@ -17,7 +17,7 @@ returns-2 : tie.Need-returns-2
 returns-2 c j n = mask_one _ _ _ _ c.before.if2.true
 
 returns-3 : tie.Need-returns-3
-returns-3 c j n = mask-more c.before.before.args.s.now c.before.before.args.i _ _ (omega arith)
+returns-3 c j n = mask_more c.before.before.args.s.now c.before.before.args.i _ _ (omega arith)
 
-pub read-mask-spec : {M : Type 1} → statement M
-read-mask-spec = tie.close (tie.spec returns add-if2 shared-slice-read-t8 returns-2 returns-3)
+pub read_mask_spec : {M : Type 1} → statement M
+read_mask_spec = tie.close (tie.spec returns add-if2 shared-slice-read-t8 returns-2 returns-3)

@@ -52,8 +52,8 @@ returns-5 : tie.Need-returns-5
 unfolding verb bytes
 returns-5 c = c.verb-with-argument.ensures ∙ sym (rw (sym c.before.before.before.before.before.before.before.before.before.before.before.is_IsWord.ensures ∙ c.before.before.before.before.before.before.before.before.before.before.if1.false, sym c.before.before.before.before.before.before.before.before.is-word2.ensures ∙ c.before.before.before.before.before.before.before.if2.false, sym c.before.before.before.before.before.is-word3.ensures ∙ c.before.before.before.before.if3.false, sym c.before.before.is-word4.ensures ∙ c.before.if4.false))
 
-pub verb-of-spec : {M : Type 1} → statement M
-verb-of-spec =
+pub verb_of_spec : {M : Type 1} → statement M
+verb_of_spec =
     tie.close
     (tie.spec
     slice-aggregate-is-word

@@ -3,7 +3,7 @@ use Rattle.er7_redact.proofs.action.verb_with_argument.Statement.{statement}
 use Rattle.er7_redact.proofs.action.verb_with_argument.Tie as tie
 use mathlib.Core.Path.{sym, ◌∙◌}
 use Rattle.text.specs.Text.{bytes}
-use Rattle.er7_redact.specs.Action.{verbWithArgument}
+use Rattle.er7_redact.specs.Action.{verb_with_argument}
 
 slice-aggregate-is-word : tie.Need-slice-aggregate-is-word
 slice-aggregate-is-word c = search rules
@@ -12,7 +12,7 @@ is-word-requires : tie.Need-is-word-requires
 is-word-requires c κs = search rules
 
 returns : tie.Need-returns
-unfolding verbWithArgument bytes
+unfolding verb_with_argument bytes
 returns c = sym (rw (sym c.before.is_IsWord.ensures ∙ c.if1.true))
 
 slice-aggregate-is-word-2 : tie.Need-slice-aggregate-is-word-2
@@ -22,7 +22,7 @@ is-word-requires-2 : tie.Need-is-word-requires-2
 is-word-requires-2 c κs = search rules
 
 returns-2 : tie.Need-returns-2
-unfolding verbWithArgument bytes
+unfolding verb_with_argument bytes
 returns-2 c = sym (rw (sym c.before.before.before.before.is_IsWord.ensures ∙ c.before.before.before.if1.false, sym c.before.is-word2.ensures ∙ c.if2.true))
 
 slice-aggregate-is-word-3 : tie.Need-slice-aggregate-is-word-3
@@ -32,7 +32,7 @@ is-word-requires-3 : tie.Need-is-word-requires-3
 is-word-requires-3 c κs = search rules
 
 returns-3 : tie.Need-returns-3
-unfolding verbWithArgument bytes
+unfolding verb_with_argument bytes
 returns-3 c = sym (rw (sym c.before.before.before.before.before.before.before.is_IsWord.ensures ∙ c.before.before.before.before.before.before.if1.false, sym c.before.before.before.before.is-word2.ensures ∙ c.before.before.before.if2.false, sym c.before.is-word3.ensures ∙ c.if3.true))
 
 slice-aggregate-is-word-4 : tie.Need-slice-aggregate-is-word-4
@@ -42,7 +42,7 @@ is-word-requires-4 : tie.Need-is-word-requires-4
 is-word-requires-4 c κs = search rules
 
 returns-4 : tie.Need-returns-4
-unfolding verbWithArgument bytes
+unfolding verb_with_argument bytes
 returns-4 c = sym (rw (sym c.before.before.before.before.before.before.before.before.before.before.is_IsWord.ensures ∙ c.before.before.before.before.before.before.before.before.before.if1.false, sym c.before.before.before.before.before.before.before.is-word2.ensures ∙ c.before.before.before.before.before.before.if2.false, sym c.before.before.before.before.is-word3.ensures ∙ c.before.before.before.if3.false, sym c.before.is-word4.ensures ∙ c.if4.true))
 
 slice-aggregate-is-word-5 : tie.Need-slice-aggregate-is-word-5
@@ -52,15 +52,15 @@ is-word-requires-5 : tie.Need-is-word-requires-5
 is-word-requires-5 c κs = search rules
 
 returns-5 : tie.Need-returns-5
-unfolding verbWithArgument bytes
+unfolding verb_with_argument bytes
 returns-5 c = sym (rw (sym c.before.before.before.before.before.before.before.before.before.before.before.before.before.is_IsWord.ensures ∙ c.before.before.before.before.before.before.before.before.before.before.before.before.if1.false, sym c.before.before.before.before.before.before.before.before.before.before.is-word2.ensures ∙ c.before.before.before.before.before.before.before.before.before.if2.false, sym c.before.before.before.before.before.before.before.is-word3.ensures ∙ c.before.before.before.before.before.before.if3.false, sym c.before.before.before.before.is-word4.ensures ∙ c.before.before.before.if4.false, sym c.before.is-word5.ensures ∙ c.if5.true))
 
 returns-6 : tie.Need-returns-6
-unfolding verbWithArgument bytes
+unfolding verb_with_argument bytes
 returns-6 c = sym (rw (sym c.before.before.before.before.before.before.before.before.before.before.before.before.before.is_IsWord.ensures ∙ c.before.before.before.before.before.before.before.before.before.before.before.before.if1.false, sym c.before.before.before.before.before.before.before.before.before.before.is-word2.ensures ∙ c.before.before.before.before.before.before.before.before.before.if2.false, sym c.before.before.before.before.before.before.before.is-word3.ensures ∙ c.before.before.before.before.before.before.if3.false, sym c.before.before.before.before.is-word4.ensures ∙ c.before.before.before.if4.false, sym c.before.is-word5.ensures ∙ c.if5.false))
 
-pub verb-with-argument-spec : {M : Type 1} → statement M
-verb-with-argument-spec =
+pub verb_with_argument_spec : {M : Type 1} → statement M
+verb_with_argument_spec =
     tie.close
     (tie.spec
     slice-aggregate-is-word

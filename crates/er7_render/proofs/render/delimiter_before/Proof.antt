@@ -19,5 +19,5 @@ returns-4 : tie.Need-returns-4
 unfolding delimiter
 returns-4 c = simp (eq-eqb _ _ c.before.before.before.before.if1.false, eq-eqb _ _ c.before.before.if2.false, eq-eqb _ _ c.if3.false)
 
-pub delimiter-before-spec : {M : Type 1} → statement M
-delimiter-before-spec = tie.close (tie.spec returns returns-2 returns-3 returns-4)
+pub delimiter_before_spec : {M : Type 1} → statement M
+delimiter_before_spec = tie.close (tie.spec returns returns-2 returns-3 returns-4)

@@ -3,7 +3,7 @@ use borrow.Author.Rules.{rules}
 use Rattle.er7_render.proofs.render.print_leaf.Statement.{statement}
 use Rattle.er7_render.proofs.render.print_leaf.Tie as tie
 use Rattle.er7_table.specs.Table.{cell}
-use Rattle.er7_render.proofs.Laws.{leaf-gone, lead-room, text-room, leaf-wrote}
+use Rattle.er7_render.proofs.Laws.{leaf_gone, lead_room, text_room, leaf_wrote}
 
 mul-row : tie.Need-overflow-mul-row
 mul-row c = search rules
@@ -19,7 +19,7 @@ shared-slice-read-if1 c = search rules
 
 returns : tie.Need-returns
 unfolding cell
-returns c = leaf-gone _ _ _ _ _ c.if1.true _ _ (omega arith)
+returns c = leaf_gone _ _ _ _ _ c.if1.true _ _ (omega arith)
 
 add_start : tie.Need-overflow-add-start
 add_start c = search rules
@@ -48,7 +48,7 @@ place-at-requires c κs = search rules
 
 put-lead-requires : tie.Need-put-lead-requires
 unfolding cell
-put-lead-requires c κs = lead-room _ _ _ _ _ c.before.before.before.before.if1.false c.before.place_at.ensures c.before.before.before.before.before.before.before.before.before.requires.0 _ c.before.before.before.before.before.before.before.before.before.requires.1
+put-lead-requires c κs = lead_room _ _ _ _ _ c.before.before.before.before.if1.false c.before.place_at.ensures c.before.before.before.before.before.before.before.before.before.requires.0 _ c.before.before.before.before.before.before.before.before.before.requires.1
 
 sub-copy-at : tie.Need-overflow-sub-copy-at
 sub-copy-at c = search rules
@@ -62,17 +62,17 @@ part-copy-at-end c = search (rules, c.before.before.before.before.before.before.
 
 copy-at-requires : tie.Need-copy-at-requires
 unfolding cell
-copy-at-requires c κs = text-room _ _ _ _ _ c.before.before.before.before.before.before.before.before.before.if1.false c.before.before.before.before.before.before.place_at.ensures c.before.before.before.before.put-lead.ensures c.before.before.before.before.before.before.before.before.before.before.before.before.before.before.requires.0 c.before.before.before.before.before.before.before.before.before.before.before.before.before.before.requires.1
+copy-at-requires c κs = text_room _ _ _ _ _ c.before.before.before.before.before.before.before.before.before.if1.false c.before.before.before.before.before.before.place_at.ensures c.before.before.before.before.put-lead.ensures c.before.before.before.before.before.before.before.before.before.before.before.before.before.before.requires.0 c.before.before.before.before.before.before.before.before.before.before.before.before.before.before.requires.1
 
 same_length : tie.Need-same-length
 same_length c = search rules
 
 returns-2 : tie.Need-returns-2
 unfolding cell
-returns-2 c = leaf-wrote _ _ _ _ _ c.before.before.before.before.before.before.before.before.before.before.before.before.if1.false c.before.before.before.before.before.before.before.before.before.place_at.ensures c.before.before.before.before.before.before.before.put-lead.ensures c.before.before.copy_at.ensures
+returns-2 c = leaf_wrote _ _ _ _ _ c.before.before.before.before.before.before.before.before.before.before.before.before.if1.false c.before.before.before.before.before.before.before.before.before.place_at.ensures c.before.before.before.before.before.before.before.put-lead.ensures c.before.before.copy_at.ensures
 
-pub print-leaf-spec : {M : Type 1} → statement M
-print-leaf-spec =
+pub print_leaf_spec : {M : Type 1} → statement M
+print_leaf_spec =
     tie.close
     (tie.spec
     mul-row

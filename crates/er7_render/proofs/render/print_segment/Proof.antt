@@ -1,8 +1,8 @@
 use borrow.Author.Rules.{rules}
 use Rattle.er7_render.proofs.render.print_segment.Statement.{statement}
 use Rattle.er7_render.proofs.render.print_segment.Tie as tie
-use Rattle.er7_table.specs.Table.{cell, firstLeaf}
-use Rattle.er7_render.proofs.Laws.{next-first, segment-leaves, label-header, name-room, inside-room, ending-room, segment-wrote}
+use Rattle.er7_table.specs.Table.{cell, first_leaf}
+use Rattle.er7_render.proofs.Laws.{next_first, segment_leaves, label_header, name_room, inside_room, ending_room, segment_wrote}
 
 mul-row : tie.Need-overflow-mul-row
 mul-row c = search rules
@@ -32,28 +32,28 @@ is-header-name-requires : tie.Need-is-header-name-requires
 is-header-name-requires c κs = search rules
 
 put-name-requires : tie.Need-put-name-requires
-put-name-requires c κs = (search rules, c.before.before.before.before.before.before.before.before.requires.0.name, name-room _ _ _ _ _ _ _ _ c.before.before.before.before.before.before.before.before.requires.1)
+put-name-requires c κs = (search rules, c.before.before.before.before.before.before.before.before.requires.0.name, name_room _ _ _ _ _ _ _ _ c.before.before.before.before.before.before.before.before.requires.1)
 
 put-leaves-requires : tie.Need-put-leaves-requires
-unfolding firstLeaf cell
-put-leaves-requires c κs = (rw (next-first c.before.before.before.before.before.before.before.before.before.before.before.before.args.segs.now c.before.before.before.before.before.before.before.before.before.before.before.before.args.k) c.before.before.before.before.before.before.before.before.before.before.before.before.requires.0.order, segment-leaves c.before.before.before.before.before.before.before.before.before.before.before.before.requires.0 (next-first c.before.before.before.before.before.before.before.before.before.before.before.before.args.segs.now c.before.before.before.before.before.before.before.before.before.before.before.before.args.k), inside-room _ _ _ _ _ _ _ c.before.before.before.put-name.ensures (next-first c.before.before.before.before.before.before.before.before.before.before.before.before.args.segs.now c.before.before.before.before.before.before.before.before.before.before.before.before.args.k) (label-header _ _ _ c.before.before.before.before.before.before.label_at.ensures c.before.before.before.before.before.is-header-name.ensures) c.before.before.before.before.before.before.before.before.before.before.before.before.requires.1)
+unfolding first_leaf cell
+put-leaves-requires c κs = (rw (next_first c.before.before.before.before.before.before.before.before.before.before.before.before.args.segs.now c.before.before.before.before.before.before.before.before.before.before.before.before.args.k) c.before.before.before.before.before.before.before.before.before.before.before.before.requires.0.order, segment_leaves c.before.before.before.before.before.before.before.before.before.before.before.before.requires.0 (next_first c.before.before.before.before.before.before.before.before.before.before.before.before.args.segs.now c.before.before.before.before.before.before.before.before.before.before.before.before.args.k), inside_room _ _ _ _ _ _ _ c.before.before.before.put-name.ensures (next_first c.before.before.before.before.before.before.before.before.before.before.before.before.args.segs.now c.before.before.before.before.before.before.before.before.before.before.before.before.args.k) (label_header _ _ _ c.before.before.before.before.before.before.label_at.ensures c.before.before.before.before.before.is-header-name.ensures) c.before.before.before.before.before.before.before.before.before.before.before.before.requires.1)
 
 add-put-cr : tie.Need-overflow-add-put-cr
 add-put-cr c = search rules
 
 put-cr-requires : tie.Need-put-cr-requires
-unfolding firstLeaf cell
-put-cr-requires c κs = ending-room _ _ _ _ _ _ _ c.before.before.before.before.before.before.before.before.before.put-name.ensures (next-first c.before.before.before.before.before.before.before.before.before.before.before.before.before.before.before.before.before.before.args.segs.now c.before.before.before.before.before.before.before.before.before.before.before.before.before.before.before.before.before.before.args.k) (label-header _ _ _ c.before.before.before.before.before.before.before.before.before.before.before.before.label_at.ensures c.before.before.before.before.before.before.before.before.before.before.before.is-header-name.ensures) c.before.before.before.before.before.put-leaves.ensures c.before.before.before.before.before.before.before.before.before.before.before.before.before.before.before.before.before.before.requires.1
+unfolding first_leaf cell
+put-cr-requires c κs = ending_room _ _ _ _ _ _ _ c.before.before.before.before.before.before.before.before.before.put-name.ensures (next_first c.before.before.before.before.before.before.before.before.before.before.before.before.before.before.before.before.before.before.args.segs.now c.before.before.before.before.before.before.before.before.before.before.before.before.before.before.before.before.before.before.args.k) (label_header _ _ _ c.before.before.before.before.before.before.before.before.before.before.before.before.label_at.ensures c.before.before.before.before.before.before.before.before.before.before.before.is-header-name.ensures) c.before.before.before.before.before.put-leaves.ensures c.before.before.before.before.before.before.before.before.before.before.before.before.before.before.before.before.before.before.requires.1
 
 same_length : tie.Need-same-length
 same_length c = search rules
 
 returns : tie.Need-returns
-unfolding firstLeaf cell
-returns c = segment-wrote _ _ _ _ _ _ _ c.before.before.before.before.before.before.before.before.before.before.before.before.put-name.ensures (next-first c.before.before.before.before.before.before.before.before.before.before.before.before.before.before.before.before.before.before.before.before.before.args.segs.now c.before.before.before.before.before.before.before.before.before.before.before.before.before.before.before.before.before.before.before.before.before.args.k) (label-header _ _ _ c.before.before.before.before.before.before.before.before.before.before.before.before.before.before.before.label_at.ensures c.before.before.before.before.before.before.before.before.before.before.before.before.before.before.is-header-name.ensures) c.before.before.before.before.before.before.before.before.put-leaves.ensures c.before.before.put-cr.ensures
+unfolding first_leaf cell
+returns c = segment_wrote _ _ _ _ _ _ _ c.before.before.before.before.before.before.before.before.before.before.before.before.put-name.ensures (next_first c.before.before.before.before.before.before.before.before.before.before.before.before.before.before.before.before.before.before.before.before.before.args.segs.now c.before.before.before.before.before.before.before.before.before.before.before.before.before.before.before.before.before.before.before.before.before.args.k) (label_header _ _ _ c.before.before.before.before.before.before.before.before.before.before.before.before.before.before.before.label_at.ensures c.before.before.before.before.before.before.before.before.before.before.before.before.before.before.is-header-name.ensures) c.before.before.before.before.before.before.before.before.put-leaves.ensures c.before.before.put-cr.ensures
 
-pub print-segment-spec : {M : Type 1} → statement M
-print-segment-spec =
+pub print_segment_spec : {M : Type 1} → statement M
+print_segment_spec =
     tie.close
     (tie.spec
     mul-row

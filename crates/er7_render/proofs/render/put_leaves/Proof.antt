@@ -3,21 +3,21 @@ use borrow.Author.Rules.{rules}
 use Rattle.er7_render.proofs.render.put_leaves.Statement.{statement}
 use Rattle.er7_render.proofs.render.put_leaves.Tie as tie
 use Prim.Native.Nat.{◌-◌}
-use Rattle.er7_render.specs.Inner.{leafText, leavesText}
-use Rattle.er7_render.proofs.Laws.{Joining, joining-start, joining-room, joining-more, joining-end, leaf-in-store}
+use Rattle.er7_render.specs.Inner.{leaf_text, leaves_text}
+use Rattle.er7_render.proofs.Laws.{Joining, joining_start, joining_room, joining_more, joining_end, leaf_in_store}
 
 abbrev invariant-loop : tie.invariant-loop
-invariant-loop s header cells first end store out₀ at i₀ k₀ out i k = Joining (leafText s header cells store) first end out₀ at i out k
+invariant-loop s header cells first end store out₀ at i₀ k₀ out i k = Joining (leaf_text s header cells store) first end out₀ at i out k
 
 abbrev decreases-loop : tie.decreases-loop
 decreases-loop s header cells first end store out₀ at i₀ k₀ out i k = end - i
 
 loop-holds : tie.Need-loop-init invariant-loop decreases-loop
-loop-holds c = joining-start _ _ _ _ _ (omega arith) (omega arith)
+loop-holds c = joining_start _ _ _ _ _ (omega arith) (omega arith)
 
 print-leaf-requires : tie.Need-print-leaf-requires invariant-loop decreases-loop
-unfolding leavesText
-print-leaf-requires c κs = (leaf-in-store c.before.before.before.before.before.before.requires.1 _ (omega arith), joining-room c.before.before.loop.invariant (omega arith) c.before.before.before.before.before.before.requires.2)
+unfolding leaves_text
+print-leaf-requires c κs = (leaf_in_store c.before.before.before.before.before.before.requires.1 _ (omega arith), joining_room c.before.before.loop.invariant (omega arith) c.before.before.before.before.before.before.requires.2)
 
 add-i : tie.Need-overflow-add-i invariant-loop decreases-loop
 add-i c = search rules
@@ -26,17 +26,17 @@ loop-less : tie.Need-loop-smaller invariant-loop decreases-loop
 loop-less c = search rules
 
 loop-again : tie.Need-loop-preserved invariant-loop decreases-loop
-loop-again c = joining-more c.before.before.before.before.before.loop.invariant (omega arith) c.before.before.print-leaf.ensures
+loop-again c = joining_more c.before.before.before.before.before.loop.invariant (omega arith) c.before.before.print-leaf.ensures
 
 same_length : tie.Need-same-length invariant-loop decreases-loop
 same_length c = search rules
 
 returns : tie.Need-returns invariant-loop decreases-loop
-unfolding leavesText
-returns c = joining-end c.before.loop.invariant (omega arith)
+unfolding leaves_text
+returns c = joining_end c.before.loop.invariant (omega arith)
 
-pub put-leaves-spec : {M : Type 1} → statement M
-put-leaves-spec =
+pub put_leaves_spec : {M : Type 1} → statement M
+put_leaves_spec =
     tie.close
     (tie.spec
     invariant-loop

@@ -62,8 +62,8 @@ returns : tie.Need-returns
 unfolding cell name_at
 returns c = wrote_then (wrote_then c.before.before.before.before.before.before.before.before.before.before.byte_at.ensures c.before.before.before.before.before.before.byte-at2.ensures) c.before.before.byte-at3.ensures
 
-pub put-name-spec : {M : Type 1} → statement M
-put-name-spec =
+pub put_name_spec : {M : Type 1} → statement M
+put_name_spec =
     tie.close
     (tie.spec
     mul-row

@@ -3,7 +3,7 @@ use borrow.Author.Rules.{rules}
 use Rattle.er7_render.proofs.store.compact.Statement.{statement}
 use Rattle.er7_render.proofs.store.compact.Tie as tie
 use Rattle.er7_render.proofs.Slots.{good_more}
-use Rattle.er7_render.proofs.Packing.{pack-back}
+use Rattle.er7_render.proofs.Packing.{pack_back}
 
 pack-requires : tie.Need-pack-requires
 pack-requires c κs = (good_more c.before.before.before.before.before.before.requires.0 c.before.before.before.before.before.before.requires.0.room (omega arith), c.before.before.before.before.before.before.requires.2)
@@ -30,10 +30,10 @@ same-length-3 : tie.Need-same-length-3
 same-length-3 c = search rules
 
 returns : tie.Need-returns
-returns c = pack-back c.before.before.before.before.before.before.before.before.before.before.pack.ensures c.before.before.copy_at.ensures
+returns c = pack_back c.before.before.before.before.before.before.before.before.before.before.pack.ensures c.before.before.copy_at.ensures
 
-pub compact-spec : {M : Type 1} → statement M
-compact-spec =
+pub compact_spec : {M : Type 1} → statement M
+compact_spec =
     tie.close
     (tie.spec
     pack-requires

@@ -3,7 +3,7 @@ use borrow.Author.Rules.{rules}
 use lib.ListN.{length-take, length-drop}
 use Rattle.er7_render.proofs.store.compact_behind.Statement.{statement}
 use Rattle.er7_render.proofs.store.compact_behind.Tie as tie
-use Rattle.er7_render.proofs.Room.{same-part}
+use Rattle.er7_render.proofs.Room.{same_part}
 
 sub-compact : tie.Need-overflow-sub-compact
 sub-compact c = search rules
@@ -27,10 +27,10 @@ same-length-3 : tie.Need-same-length-3
 same-length-3 c = search rules
 
 returns : tie.Need-returns
-returns c = (c.before.before.before.before.before.before.compact.ensures, same-part _ _ c.before.before.before.before.before.before.compact.new.1.1.1.0 (omega arith) c.before.before.before.before.before.before.compact.auto.1.1.1.0)
+returns c = (c.before.before.before.before.before.before.compact.ensures, same_part _ _ c.before.before.before.before.before.before.compact.new.1.1.1.0 (omega arith) c.before.before.before.before.before.before.compact.auto.1.1.1.0)
 
-pub compact-behind-spec : {M : Type 1} → statement M
-compact-behind-spec =
+pub compact_behind_spec : {M : Type 1} → statement M
+compact_behind_spec =
     tie.close
     (tie.spec
     sub-compact

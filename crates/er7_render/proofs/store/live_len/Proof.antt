@@ -8,5 +8,5 @@ returns c = simp (eq-eqb _ _ c.if1.true)
 returns-2 : tie.Need-returns-2
 returns-2 c = simp (ne_eqb _ _ c.if1.false)
 
-pub live-len-spec : {M : Type 1} → statement M
-live-len-spec = tie.close (tie.spec returns returns-2)
+pub live_len_spec : {M : Type 1} → statement M
+live_len_spec = tie.close (tie.spec returns returns-2)

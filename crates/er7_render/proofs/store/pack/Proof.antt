@@ -5,7 +5,7 @@ use Rattle.er7_render.proofs.store.pack.Tie as tie
 use mathlib.Core.Path.{◌≡◌, refl}
 use Prim.Native.Nat.{◌-◌}
 use lib.ListN.{length}
-use Rattle.er7_render.proofs.Packing.{Packing, pack-start, pack-in-store, pack-room, pack-next, pack-all}
+use Rattle.er7_render.proofs.Packing.{Packing, pack_start, pack_in_store, pack_room, pack_next, pack_all}
 
 abbrev invariant-loop : tie.invariant-loop
 invariant-loop n cells₀ store spare₀ at₀ i₀ cells spare at i = Packing cells₀ store n i cells spare at × (length spare ≡ length spare₀)
@@ -14,10 +14,10 @@ abbrev decreases-loop : tie.decreases-loop
 decreases-loop n cells₀ store spare₀ at₀ i₀ cells spare at i = n - i
 
 loop-holds : tie.Need-loop-init invariant-loop decreases-loop
-loop-holds c = (pack-start _ _ _ _ c.before.before.before.requires.1, refl)
+loop-holds c = (pack_start _ _ _ _ c.before.before.before.requires.1, refl)
 
 pack-leaf-requires : tie.Need-pack-leaf-requires invariant-loop decreases-loop
-pack-leaf-requires c κs = (pack-in-store c.before.before.before.before.before.before.before.requires.0 c.before.before.before.loop.invariant.0 (omega arith), pack-room c.before.before.before.before.before.before.before.requires.0 c.before.before.before.loop.invariant.0 (omega arith))
+pack-leaf-requires c κs = (pack_in_store c.before.before.before.before.before.before.before.requires.0 c.before.before.before.loop.invariant.0 (omega arith), pack_room c.before.before.before.before.before.before.before.requires.0 c.before.before.before.loop.invariant.0 (omega arith))
 
 add-i : tie.Need-overflow-add-i invariant-loop decreases-loop
 add-i c = search rules
@@ -26,7 +26,7 @@ loop-less : tie.Need-loop-smaller invariant-loop decreases-loop
 loop-less c = search rules
 
 loop-again : tie.Need-loop-preserved invariant-loop decreases-loop
-loop-again c = (pack-next c.before.before.before.before.before.before.before.before.before.before.before.before.requires.0 c.before.before.before.before.before.before.before.before.loop.invariant.0 (omega arith) c.before.before.before.before.pack-leaf.ensures, search rules)
+loop-again c = (pack_next c.before.before.before.before.before.before.before.before.before.before.before.before.requires.0 c.before.before.before.before.before.before.before.before.loop.invariant.0 (omega arith) c.before.before.before.before.pack-leaf.ensures, search rules)
 
 same_length : tie.Need-same-length invariant-loop decreases-loop
 same_length c = search rules
@@ -35,10 +35,10 @@ same-length-2 : tie.Need-same-length-2 invariant-loop decreases-loop
 same-length-2 c = search rules
 
 returns : tie.Need-returns invariant-loop decreases-loop
-returns c = pack-all c.before.before.before.before.before.requires.0 c.before.loop.invariant.0 (omega arith)
+returns c = pack_all c.before.before.before.before.before.requires.0 c.before.loop.invariant.0 (omega arith)
 
-pub pack-spec : {M : Type 1} → statement M
-pack-spec =
+pub pack_spec : {M : Type 1} → statement M
+pack_spec =
     tie.close
     (tie.spec
     invariant-loop

@@ -2,8 +2,8 @@ use borrow.Author.Rules.{rules}
 use Rattle.er7_render.proofs.store.pack_leaf.Statement.{statement}
 use Rattle.er7_render.proofs.store.pack_leaf.Tie as tie
 use Rattle.er7_table.specs.Table.{cell}
-use Rattle.er7_render.specs.Stored.{liveLen}
-use Rattle.er7_render.proofs.Packing.{live_end, copy-room, leaf-packed}
+use Rattle.er7_render.specs.Stored.{live_len}
+use Rattle.er7_render.proofs.Packing.{live_end, copy_room, leaf_packed}
 
 mul-row : tie.Need-overflow-mul-row
 mul-row c = search rules
@@ -39,7 +39,7 @@ live-len-requires : tie.Need-live-len-requires
 live-len-requires c κs = search rules
 
 add-end : tie.Need-overflow-add-end
-unfolding cell liveLen
+unfolding cell live_len
 add-end c = search (rules, live_end c.before.before.before.before.before.before.before.args.cells.now c.before.before.before.before.before.before.before.args.store.now c.before.before.before.before.before.before.before.args.i c.before.before.before.before.before.before.before.requires.0 _ c.live-len.ensures)
 
 sub-copy-at : tie.Need-overflow-sub-copy-at
@@ -49,12 +49,12 @@ part-copy-at-start : tie.Need-slice-bounds-copy-at-start
 part-copy-at-start c = search rules
 
 part-copy-at-end : tie.Need-slice-bounds-copy-at-end
-unfolding cell liveLen
+unfolding cell live_len
 part-copy-at-end c = search (rules, live_end c.before.before.before.before.before.before.before.before.args.cells.now c.before.before.before.before.before.before.before.before.args.store.now c.before.before.before.before.before.before.before.before.args.i c.before.before.before.before.before.before.before.before.requires.0 _ c.before.live-len.ensures)
 
 copy-at-requires : tie.Need-copy-at-requires
-unfolding cell liveLen
-copy-at-requires c κs = copy-room c.before.before.before.before.before.before.before.before.before.args.cells.now c.before.before.before.before.before.before.before.before.before.args.store.now c.before.before.before.before.before.before.before.before.before.args.i c.before.before.before.before.before.before.before.before.before.requires.0 _ c.before.before.live-len.ensures _ c.before.before.before.before.before.before.before.before.before.requires.1
+unfolding cell live_len
+copy-at-requires c κs = copy_room c.before.before.before.before.before.before.before.before.before.args.cells.now c.before.before.before.before.before.before.before.before.before.args.store.now c.before.before.before.before.before.before.before.before.before.args.i c.before.before.before.before.before.before.before.before.before.requires.0 _ c.before.before.live-len.ensures _ c.before.before.before.before.before.before.before.before.before.requires.1
 
 set-text-requires : tie.Need-set-text-requires
 set-text-requires c κs = search rules
@@ -66,11 +66,11 @@ same-length-2 : tie.Need-same-length-2
 same-length-2 c = search rules
 
 returns : tie.Need-returns
-unfolding cell liveLen
-returns c = leaf-packed c.before.before.before.before.before.before.before.before.before.before.before.before.before.before.before.before.args.cells.now c.before.before.before.before.before.before.before.before.before.before.before.before.before.before.before.before.args.store.now c.before.before.before.before.before.before.before.before.before.before.before.before.before.before.before.before.args.i c.before.before.before.before.before.before.before.before.before.before.before.before.before.before.before.before.requires.0 _ c.before.before.before.before.before.before.before.before.before.live-len.ensures c.before.before.before.before.before.before.copy_at.ensures c.before.before.set-text.ensures
+unfolding cell live_len
+returns c = leaf_packed c.before.before.before.before.before.before.before.before.before.before.before.before.before.before.before.before.args.cells.now c.before.before.before.before.before.before.before.before.before.before.before.before.before.before.before.before.args.store.now c.before.before.before.before.before.before.before.before.before.before.before.before.before.before.before.before.args.i c.before.before.before.before.before.before.before.before.before.before.before.before.before.before.before.before.requires.0 _ c.before.before.before.before.before.before.before.before.before.live-len.ensures c.before.before.before.before.before.before.copy_at.ensures c.before.before.set-text.ensures
 
-pub pack-leaf-spec : {M : Type 1} → statement M
-pack-leaf-spec =
+pub pack_leaf_spec : {M : Type 1} → statement M
+pack_leaf_spec =
     tie.close
     (tie.spec
     mul-row

@@ -22,6 +22,6 @@ same_length c = search rules
 returns : tie.Need-returns
 returns c = vanished _ _ (omega arith)
 
-pub set-gone-spec : {M : Type 1} → statement M
-set-gone-spec =
+pub set_gone_spec : {M : Type 1} → statement M
+set_gone_spec =
     tie.close (tie.spec mul_at add-cells mul-cells slice-write-cells same_length returns)

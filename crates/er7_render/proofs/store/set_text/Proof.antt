@@ -3,7 +3,7 @@ use borrow.Author.Rules.{rules}
 use Rattle.er7_render.proofs.store.set_text.Statement.{statement}
 use Rattle.er7_render.proofs.store.set_text.Tie as tie
 use lib.ListN.{length-set}
-use Rattle.er7_render.proofs.Slots.{text-set}
+use Rattle.er7_render.proofs.Slots.{text_set}
 
 mul_at : tie.Need-overflow-mul-at
 mul_at c = search rules
@@ -30,10 +30,10 @@ same_length : tie.Need-same-length
 same_length c = search rules
 
 returns : tie.Need-returns
-returns c = text-set _ _ _ _ (omega arith)
+returns c = text_set _ _ _ _ (omega arith)
 
-pub set-text-spec : {M : Type 1} → statement M
-set-text-spec =
+pub set_text_spec : {M : Type 1} → statement M
+set_text_spec =
     tie.close
     (tie.spec
     mul_at

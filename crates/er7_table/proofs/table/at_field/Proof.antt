@@ -10,5 +10,5 @@ returns : tie.Need-returns
 unfolding Message.atField
 returns c = c.place_of.ensures
 
-pub at-field-spec : {M : Type 1} → statement M
-at-field-spec = tie.close (tie.spec place-of-requires returns)
+pub at_field_spec : {M : Type 1} → statement M
+at_field_spec = tie.close (tie.spec place-of-requires returns)

@@ -7,5 +7,5 @@ returns : tie.Need-returns
 unfolding Message.endsLeaf
 returns c = refl
 
-pub ends-leaf-spec : {M : Type 1} → statement M
-ends-leaf-spec = tie.close (tie.spec returns)
+pub ends_leaf_spec : {M : Type 1} → statement M
+ends_leaf_spec = tie.close (tie.spec returns)

@@ -1,7 +1,7 @@
 use borrow.Author.Rules.{rules}
 use Rattle.er7_table.proofs.table.label_at.Statement.{statement}
 use Rattle.er7_table.proofs.table.label_at.Tie as tie
-use Rattle.er7_table.specs.Table.{cell, name_at, label_at, asLabel}
+use Rattle.er7_table.specs.Table.{cell, name_at, label_at, as_label}
 use mathlib.Core.Path.{refl}
 
 mul_at : tie.Need-overflow-mul-at
@@ -56,11 +56,11 @@ element-copy-out-t26 : tie.Need-element-copy-out-t26
 element-copy-out-t26 c = search rules
 
 returns : tie.Need-returns
-unfolding asLabel label_at name_at cell
+unfolding as_label label_at name_at cell
 returns c = refl
 
-pub label-at-spec : {M : Type 1} → statement M
-label-at-spec =
+pub label_at_spec : {M : Type 1} → statement M
+label_at_spec =
     tie.close
     (tie.spec
     mul_at

@@ -2,7 +2,7 @@ use borrow.Author.Rules.{rules}
 use Rattle.er7_table.proofs.table.place_at.Statement.{statement}
 use Rattle.er7_table.proofs.table.place_at.Tie as tie
 use mathlib.Core.Path.{refl}
-use Rattle.er7_table.specs.Table.{cell, placeAt}
+use Rattle.er7_table.specs.Table.{cell, place_at}
 
 mul_at : tie.Need-overflow-mul-at
 mul_at c = search rules
@@ -44,11 +44,11 @@ shared-slice-read-t19 : tie.Need-shared-slice-read-t19
 shared-slice-read-t19 c = search rules
 
 returns : tie.Need-returns
-unfolding placeAt cell
+unfolding place_at cell
 returns c = refl
 
-pub place-at-spec : {M : Type 1} → statement M
-place-at-spec =
+pub place_at_spec : {M : Type 1} → statement M
+place_at_spec =
     tie.close
     (tie.spec
     mul_at

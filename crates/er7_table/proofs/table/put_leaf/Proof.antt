@@ -3,7 +3,7 @@ use Rattle.er7_table.proofs.table.put_leaf.Tie as tie
 use borrow.Author.Rules.{rules}
 use native.Mathlib.Omega.{arith}
 use lib.ListN.{length-set}
-use Rattle.er7_table.proofs.Rows.{leaf-put}
+use Rattle.er7_table.proofs.Rows.{leaf_put}
 
 mul_at : tie.Need-overflow-mul-at
 mul_at c = search rules
@@ -75,10 +75,10 @@ same_length : tie.Need-same-length
 same_length c = search rules
 
 returns : tie.Need-returns
-returns c = leaf-put _ _ _ _ _ (omega arith)
+returns c = leaf_put _ _ _ _ _ (omega arith)
 
-pub put-leaf-spec : {M : Type 1} → statement M
-put-leaf-spec =
+pub put_leaf_spec : {M : Type 1} → statement M
+put_leaf_spec =
     tie.close
     (tie.spec
     mul_at

@@ -3,7 +3,7 @@ use Rattle.er7_table.proofs.table.put_segment.Tie as tie
 use borrow.Author.Rules.{rules}
 use native.Mathlib.Omega.{arith}
 use lib.ListN.{length-set}
-use Rattle.er7_table.proofs.Rows.{segment-put}
+use Rattle.er7_table.proofs.Rows.{segment_put}
 
 mul_at : tie.Need-overflow-mul-at
 mul_at c = search rules
@@ -66,10 +66,10 @@ same_length : tie.Need-same-length
 same_length c = search rules
 
 returns : tie.Need-returns
-returns c = segment-put _ _ _ _ _ _ _ _ (omega arith)
+returns c = segment_put _ _ _ _ _ _ _ _ (omega arith)
 
-pub put-segment-spec : {M : Type 1} → statement M
-put-segment-spec =
+pub put_segment_spec : {M : Type 1} → statement M
+put_segment_spec =
     tie.close
     (tie.spec
     mul_at

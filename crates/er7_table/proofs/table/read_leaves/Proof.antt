@@ -3,7 +3,7 @@ use Rattle.er7_table.proofs.table.read_leaves.Tie as tie
 use borrow.Author.Rules.{rules}
 use Prim.Native.Nat.{◌-◌}
 use native.Mathlib.Omega.{arith}
-use Rattle.er7_table.proofs.Reading.{Going, going_start, going-full, going-last, going_next}
+use Rattle.er7_table.proofs.Reading.{Going, going_start, going_full, going_last, going_next}
 use Rattle.refusal.specs.Limits.{LEAVES_MAX}
 
 abbrev invariant-loop : tie.invariant-loop
@@ -19,7 +19,7 @@ same_length : tie.Need-same-length invariant-loop decreases-loop
 same_length c = search rules
 
 returns : tie.Need-returns invariant-loop decreases-loop
-returns c = going-full c.before.loop.invariant c.if1.true
+returns c = going_full c.before.loop.invariant c.if1.true
 
 leaf-end-requires : tie.Need-leaf-end-requires invariant-loop decreases-loop
 leaf-end-requires c κs = search rules
@@ -37,7 +37,7 @@ same-length-2 : tie.Need-same-length-2 invariant-loop decreases-loop
 same-length-2 c = search rules
 
 returns-2 : tie.Need-returns-2 invariant-loop decreases-loop
-returns-2 c = going-last c.before.before.before.before.before.before.before.loop.invariant c.before.before.before.before.before.leaf-end.ensures c.before.before.before.put-leaf.ensures (omega (arith, c.before.before.before.before.before.before.before.loop.invariant.high, c.before.before.before.before.before.before.if1.false)) c.if2.true
+returns-2 c = going_last c.before.before.before.before.before.before.before.loop.invariant c.before.before.before.before.before.leaf-end.ensures c.before.before.before.put-leaf.ensures (omega (arith, c.before.before.before.before.before.before.before.loop.invariant.high, c.before.before.before.before.before.before.if1.false)) c.if2.true
 
 shared-slice-read-next : tie.Need-shared-slice-read-next invariant-loop decreases-loop
 shared-slice-read-next c = search rules
@@ -54,8 +54,8 @@ loop-less c = search rules
 loop-again : tie.Need-loop-preserved invariant-loop decreases-loop
 loop-again c = going_next c.before.before.before.before.before.before.before.before.before.loop.invariant c.before.before.before.before.before.before.before.leaf-end.ensures c.before.before.before.before.before.put-leaf.ensures (omega (arith, c.before.before.before.before.before.before.before.before.before.loop.invariant.high, c.before.before.before.before.before.before.before.before.if1.false)) (omega (arith, c.before.before.before.before.before.before.before.leaf-end.ensures.high, c.before.before.if2.false)) c.next.ensures (search rules)
 
-pub read-leaves-spec : {M : Type 1} → statement M
-read-leaves-spec =
+pub read_leaves_spec : {M : Type 1} → statement M
+read_leaves_spec =
     tie.close
     (tie.spec
     invariant-loop

@@ -5,7 +5,7 @@ use native.Mathlib.Omega.{arith}
 use Prim.Native.Nat.{◌-◌}
 use lib.ListN.{length}
 use Rattle.text.specs.Text.{part}
-use Rattle.er7_value.proofs.Decoding.{Decoding, decoding-start, decoding-stretch, decoding-unpaired, decoding-paired, decoding-end}
+use Rattle.er7_value.proofs.Decoding.{Decoding, decoding_start, decoding_stretch, decoding_unpaired, decoding_paired, decoding_end}
 
 abbrev invariant-loop : tie.invariant-loop
 invariant-loop text s out₀ at other i₀ k₀ out i k = Decoding s text out₀ at i out k
@@ -14,7 +14,7 @@ abbrev decreases-loop : tie.decreases-loop
 decreases-loop text s out₀ at other i₀ k₀ out i k = length text - i
 
 loop-holds : tie.Need-loop-init invariant-loop decreases-loop
-loop-holds c = decoding-start _ _ _ _ (omega arith)
+loop-holds c = decoding_start _ _ _ _ (omega arith)
 
 run-end-requires : tie.Need-run-end-requires invariant-loop decreases-loop
 run-end-requires c κs = search rules
@@ -36,7 +36,7 @@ same_length c = search rules
 
 returns : tie.Need-returns invariant-loop decreases-loop
 unfolding part
-returns c = decoding-end (decoding-stretch c.before.before.before.before.before.before.before.before.loop.invariant c.before.before.before.before.before.before.run-end.ensures c.before.before.before.copy_at.ensures) (omega arith)
+returns c = decoding_end (decoding_stretch c.before.before.before.before.before.before.before.before.loop.invariant c.before.before.before.before.before.before.run-end.ensures c.before.before.before.copy_at.ensures) (omega arith)
 
 add_start : tie.Need-overflow-add-start invariant-loop decreases-loop
 add_start c = search rules
@@ -61,7 +61,7 @@ same-length-2 c = search rules
 
 returns-2 : tie.Need-returns-2 invariant-loop decreases-loop
 unfolding part
-returns-2 c = decoding-unpaired (decoding-stretch c.before.before.before.before.before.before.before.before.before.before.before.before.before.before.before.loop.invariant c.before.before.before.before.before.before.before.before.before.before.before.before.before.run-end.ensures c.before.before.before.before.before.before.before.before.before.before.copy_at.ensures) c.before.before.before.before.before.before.before.before.before.before.before.before.before.run-end.ensures (omega arith) c.before.before.before.before.before.before.run-end2.ensures c.before.before.before.before.before.if2.true c.before.before.copy-at2.ensures
+returns-2 c = decoding_unpaired (decoding_stretch c.before.before.before.before.before.before.before.before.before.before.before.before.before.before.before.loop.invariant c.before.before.before.before.before.before.before.before.before.before.before.before.before.run-end.ensures c.before.before.before.before.before.before.before.before.before.before.copy_at.ensures) c.before.before.before.before.before.before.before.before.before.before.before.before.before.run-end.ensures (omega arith) c.before.before.before.before.before.before.run-end2.ensures c.before.before.before.before.before.if2.true c.before.before.copy-at2.ensures
 
 sub-put-pair : tie.Need-overflow-sub-put-pair invariant-loop decreases-loop
 sub-put-pair c = search rules
@@ -83,16 +83,16 @@ loop-less c = search rules
 
 loop-again : tie.Need-loop-preserved invariant-loop decreases-loop
 unfolding part
-loop-again c = decoding-paired (decoding-stretch c.before.before.before.before.before.before.before.before.before.before.before.before.before.before.before.loop.invariant c.before.before.before.before.before.before.before.before.before.before.before.before.before.run-end.ensures c.before.before.before.before.before.before.before.before.before.before.copy_at.ensures) c.before.before.before.before.before.before.before.before.before.before.before.before.before.run-end.ensures (omega arith) c.before.before.before.before.before.before.run-end2.ensures (omega arith) c.before.before.put-pair.ensures
+loop-again c = decoding_paired (decoding_stretch c.before.before.before.before.before.before.before.before.before.before.before.before.before.before.before.loop.invariant c.before.before.before.before.before.before.before.before.before.before.before.before.before.run-end.ensures c.before.before.before.before.before.before.before.before.before.before.copy_at.ensures) c.before.before.before.before.before.before.before.before.before.before.before.before.before.run-end.ensures (omega arith) c.before.before.before.before.before.before.run-end2.ensures (omega arith) c.before.before.put-pair.ensures
 
 same-length-3 : tie.Need-same-length-3 invariant-loop decreases-loop
 same-length-3 c = search rules
 
 returns-3 : tie.Need-returns-3 invariant-loop decreases-loop
-returns-3 c = decoding-end c.before.loop.invariant (omega arith)
+returns-3 c = decoding_end c.before.loop.invariant (omega arith)
 
-pub decode-spec : {M : Type 1} → statement M
-decode-spec =
+pub decode_spec : {M : Type 1} → statement M
+decode_spec =
     tie.close
     (tie.spec
     invariant-loop

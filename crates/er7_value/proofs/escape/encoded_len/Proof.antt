@@ -4,7 +4,7 @@ use Rattle.er7_value.proofs.escape.encoded_len.Tie as tie
 use native.Mathlib.Omega.{arith}
 use Prim.Native.Nat.{◌-◌}
 use lib.ListN.{length}
-use Rattle.er7_value.proofs.Encoding.{Counting, counting-start, counting_more, counting-end}
+use Rattle.er7_value.proofs.Encoding.{Counting, counting_start, counting_more, counting_end}
 
 abbrev invariant-loop : tie.invariant-loop
 invariant-loop v s n₀ j₀ n j = Counting s v n j
@@ -13,7 +13,7 @@ abbrev decreases-loop : tie.decreases-loop
 decreases-loop v s n₀ j₀ n j = length v - j
 
 loop-holds : tie.Need-loop-init invariant-loop decreases-loop
-loop-holds c = counting-start _ _
+loop-holds c = counting_start _ _
 
 shared-slice-read-byte-len : tie.Need-shared-slice-read-byte-len invariant-loop decreases-loop
 shared-slice-read-byte-len c = search rules
@@ -34,10 +34,10 @@ loop-again : tie.Need-loop-preserved invariant-loop decreases-loop
 loop-again c = counting_more c.before.before.before.loop.invariant (omega arith) c.byte_len.ensures
 
 returns : tie.Need-returns invariant-loop decreases-loop
-returns c = counting-end c.before.loop.invariant (omega arith)
+returns c = counting_end c.before.loop.invariant (omega arith)
 
-pub encoded-len-spec : {M : Type 1} → statement M
-encoded-len-spec =
+pub encoded_len_spec : {M : Type 1} → statement M
+encoded_len_spec =
     tie.close
     (tie.spec
     invariant-loop

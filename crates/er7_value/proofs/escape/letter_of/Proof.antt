@@ -1,32 +1,32 @@
 use Rattle.er7_value.proofs.escape.letter_of.Statement.{statement}
 use Rattle.er7_value.proofs.escape.letter_of.Tie as tie
 use borrow.Author.Tests.{eq-eqb, ne_eqb}
-use Rattle.message_model.specs.Value.{letterOf}
-use Rattle.er7_value.specs.Escape.{heldLetter}
+use Rattle.message_model.specs.Value.{letter_of}
+use Rattle.er7_value.specs.Escape.{held_letter}
 
 returns : tie.Need-returns
-unfolding heldLetter letterOf
+unfolding held_letter letter_of
 returns c = rw (eq-eqb _ _ c.if1.true)
 
 returns-2 : tie.Need-returns-2
-unfolding heldLetter letterOf
+unfolding held_letter letter_of
 returns-2 c = rw (ne_eqb _ _ c.before.before.if1.false, eq-eqb _ _ c.if2.true)
 
 returns-3 : tie.Need-returns-3
-unfolding heldLetter letterOf
+unfolding held_letter letter_of
 returns-3 c = rw (ne_eqb _ _ c.before.before.before.before.if1.false, ne_eqb _ _ c.before.before.if2.false, eq-eqb _ _ c.if3.true)
 
 returns-4 : tie.Need-returns-4
-unfolding heldLetter letterOf
+unfolding held_letter letter_of
 returns-4 c = rw (ne_eqb _ _ c.before.before.before.before.before.before.if1.false, ne_eqb _ _ c.before.before.before.before.if2.false, ne_eqb _ _ c.before.before.if3.false, eq-eqb _ _ c.if4.true)
 
 returns-5 : tie.Need-returns-5
-unfolding heldLetter letterOf
+unfolding held_letter letter_of
 returns-5 c = rw (ne_eqb _ _ c.before.before.before.before.before.before.before.before.if1.false, ne_eqb _ _ c.before.before.before.before.before.before.if2.false, ne_eqb _ _ c.before.before.before.before.if3.false, ne_eqb _ _ c.before.before.if4.false, eq-eqb _ _ c.if5.true)
 
 returns-6 : tie.Need-returns-6
-unfolding heldLetter letterOf
+unfolding held_letter letter_of
 returns-6 c = rw (ne_eqb _ _ c.before.before.before.before.before.before.before.before.if1.false, ne_eqb _ _ c.before.before.before.before.before.before.if2.false, ne_eqb _ _ c.before.before.before.before.if3.false, ne_eqb _ _ c.before.before.if4.false, ne_eqb _ _ c.if5.false)
 
-pub letter-of-spec : {M : Type 1} → statement M
-letter-of-spec = tie.close (tie.spec returns returns-2 returns-3 returns-4 returns-5 returns-6)
+pub letter_of_spec : {M : Type 1} → statement M
+letter_of_spec = tie.close (tie.spec returns returns-2 returns-3 returns-4 returns-5 returns-6)

@@ -18,6 +18,6 @@ same_length c = search rules
 returns : tie.Need-returns
 returns c = wrote_then c.before.before.before.before.before.before.before.before.before.before.byte_at.ensures (wrote_then c.before.before.before.before.before.before.copy_at.ensures c.before.before.byte-at2.ensures)
 
-pub put-itself-spec : {M : Type 1} → statement M
-put-itself-spec =
+pub put_itself_spec : {M : Type 1} → statement M
+put_itself_spec =
     tie.close (tie.spec byte-at-requires copy-at-requires byte-at-requires-2 same_length returns)

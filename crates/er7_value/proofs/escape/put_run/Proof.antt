@@ -18,6 +18,6 @@ same_length c = search rules
 returns : tie.Need-returns
 returns c = wrote_then c.before.before.before.before.before.before.before.before.before.before.byte_at.ensures (wrote_then c.before.before.before.before.before.before.byte-at2.ensures c.before.before.byte-at3.ensures)
 
-pub put-run-spec : {M : Type 1} → statement M
-put-run-spec =
+pub put_run_spec : {M : Type 1} → statement M
+put_run_spec =
     tie.close (tie.spec byte-at-requires byte-at-requires-2 byte-at-requires-3 same_length returns)

@@ -6,7 +6,7 @@ use Prim.Native.Nat.{◌-◌}
 use lib.ListN.{length}
 use Rattle.text.specs.Text.{part}
 use Rattle.text.proofs.Words.{Comparing}
-use Rattle.er7_value.proofs.Hits.{hit-start, hit-more, hit-differs, hit-all}
+use Rattle.er7_value.proofs.Hits.{hit_start, hit_more, hit_differs, hit_all}
 
 abbrev invariant-loop : tie.invariant-loop
 invariant-loop v t i j₀ j = Comparing v (part t i (length v)) j
@@ -15,7 +15,7 @@ abbrev decreases-loop : tie.decreases-loop
 decreases-loop v t i j₀ j = length v - j
 
 loop-holds : tie.Need-loop-init invariant-loop decreases-loop
-loop-holds c = hit-start _ _ _ (omega arith)
+loop-holds c = hit_start _ _ _ (omega arith)
 
 shared-slice-read-if1 : tie.Need-shared-slice-read-if1 invariant-loop decreases-loop
 shared-slice-read-if1 c = search rules
@@ -27,7 +27,7 @@ shared-slice-read-if1-2 : tie.Need-shared-slice-read-if1-2 invariant-loop decrea
 shared-slice-read-if1-2 c = search rules
 
 returns : tie.Need-returns invariant-loop decreases-loop
-returns c = hit-differs _ _ _ c.before.before.before.before.loop.invariant (omega arith) c.if1.true
+returns c = hit_differs _ _ _ c.before.before.before.before.loop.invariant (omega arith) c.if1.true
 
 add-j : tie.Need-overflow-add-j invariant-loop decreases-loop
 add-j c = search rules
@@ -36,13 +36,13 @@ loop-less : tie.Need-loop-smaller invariant-loop decreases-loop
 loop-less c = search rules
 
 loop-again : tie.Need-loop-preserved invariant-loop decreases-loop
-loop-again c = hit-more _ _ _ c.before.before.before.before.loop.invariant (omega arith) c.if1.false
+loop-again c = hit_more _ _ _ c.before.before.before.before.loop.invariant (omega arith) c.if1.false
 
 returns-2 : tie.Need-returns-2 invariant-loop decreases-loop
-returns-2 c = hit-all _ _ _ c.before.loop.invariant (omega arith)
+returns-2 c = hit_all _ _ _ c.before.loop.invariant (omega arith)
 
-pub begins-by-bytes-spec : {M : Type 1} → statement M
-begins-by-bytes-spec =
+pub begins_by_bytes_spec : {M : Type 1} → statement M
+begins_by_bytes_spec =
     tie.close
     (tie.spec
     invariant-loop

@@ -5,7 +5,7 @@ use mathlib.Core.Path.{refl, sym, ◌∙◌}
 use native.Mathlib.Omega.{arith}
 use Prim.Native.Nat.{◌-◌}
 use borrow.Author.Tests.{not-true, not-false}
-use Rattle.er7_value.proofs.Eights.{Standing, standing-start, standing-more, eight-differ, standing-end}
+use Rattle.er7_value.proofs.Eights.{Standing, standing_start, standing_more, eight_differ, standing_end}
 
 abbrev invariant-loop : tie.invariant-loop
 invariant-loop v t i last j₀ j = Standing v t i j
@@ -17,7 +17,7 @@ sub-last : tie.Need-overflow-sub-last invariant-loop decreases-loop
 sub-last c = search rules
 
 loop-holds : tie.Need-loop-init invariant-loop decreases-loop
-loop-holds c = standing-start _ _ _
+loop-holds c = standing_start _ _ _
 
 add-same-eight : tie.Need-overflow-add-same-eight invariant-loop decreases-loop
 add-same-eight c = search rules
@@ -26,7 +26,7 @@ same-eight-requires : tie.Need-same-eight-requires invariant-loop decreases-loop
 same-eight-requires c κs = search rules
 
 returns : tie.Need-returns invariant-loop decreases-loop
-returns c = eight-differ _ _ _ _ (omega arith) (sym (not-true _ c.if1.true) ∙ c.before.same-eight.ensures)
+returns c = eight_differ _ _ _ _ (omega arith) (sym (not-true _ c.if1.true) ∙ c.before.same-eight.ensures)
 
 add-j : tie.Need-overflow-add-j invariant-loop decreases-loop
 add-j c = search rules
@@ -35,7 +35,7 @@ loop-less : tie.Need-loop-smaller invariant-loop decreases-loop
 loop-less c = search rules
 
 loop-again : tie.Need-loop-preserved invariant-loop decreases-loop
-loop-again c = standing-more _ _ _ c.before.before.before.loop.invariant (omega arith) (sym (not-false _ c.if1.false) ∙ c.before.same-eight.ensures)
+loop-again c = standing_more _ _ _ c.before.before.before.loop.invariant (omega arith) (sym (not-false _ c.if1.false) ∙ c.before.same-eight.ensures)
 
 add-same-eight-2 : tie.Need-overflow-add-same-eight-2 invariant-loop decreases-loop
 add-same-eight-2 c = search rules
@@ -44,10 +44,10 @@ same-eight-requires-2 : tie.Need-same-eight-requires-2 invariant-loop decreases-
 same-eight-requires-2 c κs = search rules
 
 returns-2 : tie.Need-returns-2 invariant-loop decreases-loop
-returns-2 c = standing-end _ _ _ c.before.before.loop.invariant (omega arith) refl (omega arith) c.same-eight2.ensures
+returns-2 c = standing_end _ _ _ c.before.before.loop.invariant (omega arith) refl (omega arith) c.same-eight2.ensures
 
-pub begins-by-eights-spec : {M : Type 1} → statement M
-begins-by-eights-spec =
+pub begins_by_eights_spec : {M : Type 1} → statement M
+begins_by_eights_spec =
     tie.close
     (tie.spec
     invariant-loop

@@ -4,7 +4,7 @@ use Rattle.er7_value.proofs.word.ends_word.Tie as tie
 use mathlib.Core.Path.{ap, ◌∙◌}
 use mathlib.Core.Bool.{not}
 use native.Mathlib.Omega.{arith}
-use Rattle.er7_value.proofs.Hits.{ends_last, ends-byte}
+use Rattle.er7_value.proofs.Hits.{ends_last, ends_byte}
 
 returns : tie.Need-returns
 returns c = ends_last _ _ c.if1.true
@@ -16,7 +16,7 @@ is-in-requires : tie.Need-is-in-requires
 is-in-requires c κs = search rules
 
 returns-2 : tie.Need-returns-2
-returns-2 c = ap not c.is-in.ensures ∙ ends-byte c.before.before.before.before.args.t.now c.before.before.before.before.args.e (omega arith)
+returns-2 c = ap not c.is-in.ensures ∙ ends_byte c.before.before.before.before.args.t.now c.before.before.before.before.args.e (omega arith)
 
-pub ends-word-spec : {M : Type 1} → statement M
-ends-word-spec = tie.close (tie.spec returns shared-slice-read-is-in is-in-requires returns-2)
+pub ends_word_spec : {M : Type 1} → statement M
+ends_word_spec = tie.close (tie.spec returns shared-slice-read-is-in is-in-requires returns-2)

@@ -4,7 +4,7 @@ use borrow.Author.Rules.{rules}
 use native.Mathlib.Omega.{arith}
 use Prim.Native.Nat.{◌-◌}
 use lib.ListN.{length}
-use Rattle.er7_value.proofs.Starts.{Marking, marking-start, marking-more, marking-end}
+use Rattle.er7_value.proofs.Starts.{Marking, marking_start, marking_more, marking_end}
 
 abbrev invariant-loop : tie.invariant-loop
 invariant-loop t all₀ after₀ i₀ all after i = Marking t i after all
@@ -13,7 +13,7 @@ abbrev decreases-loop : tie.decreases-loop
 decreases-loop t all₀ after₀ i₀ all after i = length t - i
 
 loop-holds : tie.Need-loop-init invariant-loop decreases-loop
-loop-holds c = marking-start _ (search rules) c.before.before.requires
+loop-holds c = marking_start _ (search rules) c.before.before.requires
 
 shared-slice-read-b : tie.Need-shared-slice-read-b invariant-loop decreases-loop
 shared-slice-read-b c = search rules
@@ -40,13 +40,13 @@ loop-less : tie.Need-loop-smaller invariant-loop decreases-loop
 loop-less c = search rules
 
 loop-again : tie.Need-loop-preserved invariant-loop decreases-loop
-loop-again c = marking-more c.before.before.before.before.before.loop.invariant (omega arith) (omega (arith, c.before.before.before.shared-slice-known2.given c.before.before.before.before.before.loop.i)) c.is-in.ensures
+loop-again c = marking_more c.before.before.before.before.before.loop.invariant (omega arith) (omega (arith, c.before.before.before.shared-slice-known2.given c.before.before.before.before.before.loop.i)) c.is-in.ensures
 
 returns : tie.Need-returns invariant-loop decreases-loop
-returns c = marking-end c.before.loop.invariant (omega arith)
+returns c = marking_end c.before.loop.invariant (omega arith)
 
-pub mark-starts-spec : {M : Type 1} → statement M
-mark-starts-spec =
+pub mark_starts_spec : {M : Type 1} → statement M
+mark_starts_spec =
     tie.close
     (tie.spec
     invariant-loop

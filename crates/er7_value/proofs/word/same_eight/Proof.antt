@@ -3,7 +3,7 @@ use Rattle.er7_value.proofs.word.same_eight.Tie as tie
 use borrow.Author.Rules.{rules}
 use native.Mathlib.Omega.{arith}
 use Prim.Native.Nat.{◌-◌}
-use Rattle.er7_value.proofs.Eights.{Matching, matching-start, matching-more, matching-end}
+use Rattle.er7_value.proofs.Eights.{Matching, matching_start, matching_more, matching_end}
 
 abbrev invariant-loop : tie.invariant-loop
 invariant-loop v j t k alike₀ n₀ alike n = Matching v j t k n alike
@@ -12,7 +12,7 @@ abbrev decreases-loop : tie.decreases-loop
 decreases-loop v j t k alike₀ n₀ alike n = 8 - n
 
 loop-holds : tie.Need-loop-init invariant-loop decreases-loop
-loop-holds c = matching-start _ _ _ _
+loop-holds c = matching_start _ _ _ _
 
 add-alike : tie.Need-overflow-add-alike invariant-loop decreases-loop
 add-alike c = search rules
@@ -33,13 +33,13 @@ loop-less : tie.Need-loop-smaller invariant-loop decreases-loop
 loop-less c = search rules
 
 loop-again : tie.Need-loop-preserved invariant-loop decreases-loop
-loop-again c = matching-more _ _ _ _ (omega arith) (omega arith) c.before.before.before.loop.invariant (omega arith)
+loop-again c = matching_more _ _ _ _ (omega arith) (omega arith) c.before.before.before.loop.invariant (omega arith)
 
 returns : tie.Need-returns invariant-loop decreases-loop
-returns c = matching-end _ _ _ _ c.before.loop.invariant (omega arith)
+returns c = matching_end _ _ _ _ c.before.loop.invariant (omega arith)
 
-pub same-eight-spec : {M : Type 1} → statement M
-same-eight-spec =
+pub same_eight_spec : {M : Type 1} → statement M
+same_eight_spec =
     tie.close
     (tie.spec
     invariant-loop

@@ -26,8 +26,8 @@ returns : tie.Need-returns
 unfolding bytes
 returns c = rw (c.before.before.is_IsWord.ensures, c.is-word2.ensures)
 
-pub is-unrecognised-spec : {M : Type 1} → statement M
-is-unrecognised-spec =
+pub is_unrecognised_spec : {M : Type 1} → statement M
+is_unrecognised_spec =
     tie.close
     (tie.spec
     slice-aggregate-is-word

@@ -4,7 +4,7 @@ use Rattle.policy.proofs.line.judged.Statement.{statement}
 use Rattle.policy.proofs.line.judged.Tie as tie
 use Rattle.policy.proofs.line.judged.Reads as reads
 use Rattle.policy.proofs.line.judged.Lts as lts
-use Rattle.policy.proofs.Lines.{judged-long, judged-short}
+use Rattle.policy.proofs.Lines.{judged_long, judged_short}
 use Rattle.text.specs.Text.{between}
 
 sub-if1 : tie.Need-overflow-sub-if1
@@ -14,7 +14,7 @@ sub-if1-2 : tie.Need-overflow-sub-if1-2
 sub-if1-2 c = search rules
 
 returns : tie.Need-returns
-returns c = judged-long _ _ _ _ _ (omega arith) (omega arith) c.if1.true
+returns c = judged_long _ _ _ _ _ (omega arith) (omega arith) c.if1.true
 
 sub-line-kind : tie.Need-overflow-sub-line-kind
 sub-line-kind c = search rules
@@ -33,10 +33,10 @@ read-directive-requires c κs = search rules
 
 returns-2 : tie.Need-returns-2
 unfolding between
-returns-2 c = judged-short c.before.before.before.before.before.args.text.now c.before.before.before.before.before.args.i c.before.before.before.before.before.args.m c.before.before.before.before.before.args.k c.before.before.before.before.before.args.e (omega arith) (omega arith) _ c.before.before.before.if1.false c.before.line-kind.ensures c.read-directive.ensures
+returns-2 c = judged_short c.before.before.before.before.before.args.text.now c.before.before.before.before.before.args.i c.before.before.before.before.before.args.m c.before.before.before.before.before.args.k c.before.before.before.before.before.args.e (omega arith) (omega arith) _ c.before.before.before.if1.false c.before.line-kind.ensures c.read-directive.ensures
 
-pub judged-spec : {M : Type 1} → statement M
-judged-spec =
+pub judged_spec : {M : Type 1} → statement M
+judged_spec =
     tie.close
     (tie.spec
     sub-if1

@@ -4,7 +4,7 @@ use Rattle.policy.proofs.line.parse_action.Tie as tie
 use Rattle.policy.proofs.line.parse_action.Reads as reads
 use Rattle.policy.proofs.line.parse_action.Lts as lts
 use Rattle.text.specs.Text.{between}
-use Rattle.policy.proofs.Lines.{action-between}
+use Rattle.policy.proofs.Lines.{action_between}
 use native.Mathlib.Omega.{arith}
 
 -- src/line.rt:108:19
@@ -26,8 +26,8 @@ parse-requires c κs = search rules
 -- src/line.rt:104:1
 returns : tie.Need-returns
 unfolding between
-returns c = action-between _ _ _ (omega arith) (omega arith) _ c.parse.ensures
+returns c = action_between _ _ _ (omega arith) (omega arith) _ c.parse.ensures
 
-pub parse-action-spec : {M : Type 1} → statement M
-parse-action-spec =
+pub parse_action_spec : {M : Type 1} → statement M
+parse_action_spec =
     tie.close (tie.spec sub-parse part-parse-start part-parse-end parse-requires returns)

@@ -4,7 +4,7 @@ use Rattle.policy.proofs.line.path_at.Tie as tie
 use Rattle.policy.proofs.line.path_at.Reads as reads
 use Rattle.policy.proofs.line.path_at.Lts as lts
 use Rattle.text.specs.Text.{between}
-use Rattle.policy.proofs.Lines.{path-between}
+use Rattle.policy.proofs.Lines.{path_between}
 use native.Mathlib.Omega.{arith}
 
 -- src/line.rt:116:17
@@ -26,8 +26,8 @@ parse-requires c κs = search rules
 -- src/line.rt:112:1
 returns : tie.Need-returns
 unfolding between
-returns c = path-between _ _ _ (omega arith) (omega arith) _ c.parse.ensures
+returns c = path_between _ _ _ (omega arith) (omega arith) _ c.parse.ensures
 
-pub path-at-spec : {M : Type 1} → statement M
-path-at-spec =
+pub path_at_spec : {M : Type 1} → statement M
+path_at_spec =
     tie.close (tie.spec sub-parse part-parse-start part-parse-end parse-requires returns)

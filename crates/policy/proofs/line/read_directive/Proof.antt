@@ -4,8 +4,8 @@ use Rattle.policy.proofs.line.read_directive.Tie as tie
 use Rattle.policy.proofs.line.read_directive.Reads as reads
 use Rattle.policy.proofs.line.read_directive.Lts as lts
 use mathlib.Core.Path.{refl}
-use Rattle.policy.specs.Line.{asLineKind, asLine}
-use Rattle.policy_model.specs.Policy.{readDirective}
+use Rattle.policy.specs.Line.{as_line_kind, as_line}
+use Rattle.policy_model.specs.Policy.{read_directive}
 
 enum_told : tie.Need-enum-told
 enum_told c = search rules
@@ -41,31 +41,31 @@ read-rule-requires : tie.Need-read-rule-requires
 read-rule-requires c κs = search rules
 
 returns : tie.Need-returns
-unfolding readDirective asLineKind asLine
+unfolding read_directive as_line_kind as_line
 returns c = rw c.before.enum_told.given.1 c.read-accept.ensures
 
 returns-2 : tie.Need-returns-2
-unfolding readDirective asLineKind asLine
+unfolding read_directive as_line_kind as_line
 returns-2 c = rw c.before.enum-told2.given.1 c.read-reject.ensures
 
 returns-3 : tie.Need-returns-3
-unfolding readDirective asLineKind asLine
+unfolding read_directive as_line_kind as_line
 returns-3 c = rw c.before.enum-told3.given.1 c.read-unrecognised.ensures
 
 returns-4 : tie.Need-returns-4
-unfolding readDirective asLineKind asLine
+unfolding read_directive as_line_kind as_line
 returns-4 c = rw c.before.enum-told4.given.1 c.read-known-values.ensures
 
 returns-5 : tie.Need-returns-5
-unfolding readDirective asLineKind asLine
+unfolding read_directive as_line_kind as_line
 returns-5 c = rw c.enum-told5.given.1 (record { is = refl; held = tt })
 
 returns-6 : tie.Need-returns-6
-unfolding readDirective asLineKind asLine
+unfolding read_directive as_line_kind as_line
 returns-6 c = rw c.before.enum-told6.given.1 c.read-rule.ensures
 
-pub read-directive-spec : {M : Type 1} → statement M
-read-directive-spec =
+pub read_directive_spec : {M : Type 1} → statement M
+read_directive_spec =
     tie.close
     (tie.spec
     enum_told

@@ -6,7 +6,7 @@ use Rattle.policy.proofs.line.read_rule.Reads as reads
 use Rattle.policy.proofs.line.read_rule.Lts as lts
 use mathlib.Core.Path.{subst}
 use Rattle.policy.specs.Line.{ParsedActionHeld}
-use Rattle.policy.proofs.Lines.{rule-right, rule-wrong}
+use Rattle.policy.proofs.Lines.{rule_right, rule_wrong}
 
 parse-action-requires : tie.Need-parse-action-requires
 parse-action-requires c κs = search rules
@@ -21,12 +21,12 @@ enum-known-refusal : tie.Need-enum-known-refusal
 enum-known-refusal c = search rules
 
 returns : tie.Need-returns
-returns c = rule-wrong _ _ _ c.before.before.before.parse-action.ensures c.before.refusal.given.1
+returns c = rule_wrong _ _ _ c.before.before.before.parse-action.ensures c.before.refusal.given.1
 
 returns-2 : tie.Need-returns-2
-returns-2 c = rule-right _ _ _ c.before.before.before.before.parse-action.ensures c.before.before.a.given.1 c.with-path.ensures
+returns-2 c = rule_right _ _ _ c.before.before.before.before.parse-action.ensures c.before.before.a.given.1 c.with-path.ensures
 
-pub read-rule-spec : {M : Type 1} → statement M
-read-rule-spec =
+pub read_rule_spec : {M : Type 1} → statement M
+read_rule_spec =
     tie.close
     (tie.spec parse-action-requires enum-known-a with-path-requires enum-known-refusal returns returns-2)

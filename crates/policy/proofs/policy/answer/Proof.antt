@@ -3,11 +3,11 @@ use Rattle.policy.proofs.policy.answer.Tie as tie
 use Rattle.policy.proofs.policy.answer.Reads as reads
 use Rattle.policy.proofs.policy.answer.Lts as lts
 use mathlib.Core.Path.{refl}
-use Rattle.policy.specs.Reading.{held_of, policyOf}
+use Rattle.policy.specs.Reading.{held_of, policy_of}
 
 returns : tie.Need-returns
-unfolding held_of policyOf
+unfolding held_of policy_of
 returns c = refl
 
-pub answer-spec : {M : Type 1} → statement M
-answer-spec = tie.close (tie.spec returns)
+pub answer_spec : {M : Type 1} → statement M
+answer_spec = tie.close (tie.spec returns)

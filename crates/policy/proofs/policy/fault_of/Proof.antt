@@ -5,7 +5,7 @@ use Rattle.policy.proofs.policy.fault_of.Tie as tie
 use Rattle.policy.proofs.policy.fault_of.Reads as reads
 use Rattle.policy.proofs.policy.fault_of.Lts as lts
 use borrow.Author.Tests.{lt-ltb, le-ltb}
-use Rattle.policy.specs.Reading.{lineFault}
+use Rattle.policy.specs.Reading.{line_fault}
 use Rattle.refusal.specs.Limits.{RULES_MAX}
 
 enum_told : tie.Need-enum-told
@@ -15,7 +15,7 @@ enum-told-2 : tie.Need-enum-told-2
 enum-told-2 c = search rules
 
 returns : tie.Need-returns
-unfolding lineFault
+unfolding line_fault
 returns c = rw (c.before.enum-told2.given.1, lt-ltb c.before.before.before.args.count RULES_MAX (omega arith))
 
 enum-told-3 : tie.Need-enum-told-3
@@ -31,31 +31,31 @@ enum-known-said : tie.Need-enum-known-said
 enum-known-said c = search rules
 
 returns-2 : tie.Need-returns-2
-unfolding lineFault
+unfolding line_fault
 returns-2 c = rw c.enum_told.given.1
 
 returns-3 : tie.Need-returns-3
-unfolding lineFault
+unfolding line_fault
 returns-3 c = rw (c.before.enum-told2.given.1, le-ltb c.before.before.before.args.count RULES_MAX (omega arith))
 
 returns-4 : tie.Need-returns-4
-unfolding lineFault
+unfolding line_fault
 returns-4 c = rw c.enum-told3.given.1
 
 returns-5 : tie.Need-returns-5
-unfolding lineFault
+unfolding line_fault
 returns-5 c = rw c.enum-told4.given.1
 
 returns-6 : tie.Need-returns-6
-unfolding lineFault
+unfolding line_fault
 returns-6 c = rw c.enum-told5.given.1
 
 returns-7 : tie.Need-returns-7
-unfolding lineFault
+unfolding line_fault
 returns-7 c = rw c.before.said.given.1
 
-pub fault-of-spec : {M : Type 1} → statement M
-fault-of-spec =
+pub fault_of_spec : {M : Type 1} → statement M
+fault_of_spec =
     tie.close
     (tie.spec
     enum_told

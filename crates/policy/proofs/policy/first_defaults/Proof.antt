@@ -9,5 +9,5 @@ returns : tie.Need-returns
 unfolding defaults
 returns c = refl
 
-pub first-defaults-spec : {M : Type 1} → statement M
-first-defaults-spec = tie.close (tie.spec returns)
+pub first_defaults_spec : {M : Type 1} → statement M
+first_defaults_spec = tie.close (tie.spec returns)

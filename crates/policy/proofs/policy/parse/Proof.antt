@@ -4,13 +4,13 @@ use Rattle.policy.proofs.policy.parse.Statement.{statement}
 use Rattle.policy.proofs.policy.parse.Tie as tie
 use mathlib.Core.Path.{sym, ◌∙◌}
 use borrow.Author.Tests.{not-true, not-false}
-use Rattle.policy.proofs.Reading.{policy-long, policy-foreign, policy-lines}
+use Rattle.policy.proofs.Reading.{policy_long, policy_foreign, policy_lines_lem}
 
 refuse-requires : tie.Need-refuse-requires
 refuse-requires c κs = search rules
 
 returns : tie.Need-returns
-returns c = policy-long _ (omega arith) c.refuse.ensures
+returns c = policy_long _ (omega arith) c.refuse.ensures
 
 no-foreign-requires : tie.Need-no-foreign-requires
 no-foreign-requires c κs = search rules
@@ -19,16 +19,16 @@ refuse-requires-2 : tie.Need-refuse-requires-2
 refuse-requires-2 c κs = search rules
 
 returns-2 : tie.Need-returns-2
-returns-2 c = policy-foreign _ (omega arith) (sym c.before.before.no-foreign.ensures ∙ not-true _ c.before.if2.true) c.refuse2.ensures
+returns-2 c = policy_foreign _ (omega arith) (sym c.before.before.no-foreign.ensures ∙ not-true _ c.before.if2.true) c.refuse2.ensures
 
 read-lines-requires : tie.Need-read-lines-requires
 read-lines-requires c κs = search rules
 
 returns-3 : tie.Need-returns-3
-returns-3 c = policy-lines _ (omega arith) (sym c.before.before.no-foreign.ensures ∙ not-false _ c.before.if2.false) c.read-lines.ensures
+returns-3 c = policy_lines_lem _ (omega arith) (sym c.before.before.no-foreign.ensures ∙ not-false _ c.before.if2.false) c.read-lines.ensures
 
-pub parse-spec : {M : Type 1} → statement M
-parse-spec =
+pub parse_spec : {M : Type 1} → statement M
+parse_spec =
     tie.close
     (tie.spec
     refuse-requires

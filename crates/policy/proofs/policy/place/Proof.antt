@@ -15,5 +15,5 @@ returns-2 : tie.Need-returns-2
 unfolding place_of
 returns-2 c = (rw (lt-ltb c.before.args.count RULES_MAX (omega arith)), omega arith)
 
-pub place-spec : {M : Type 1} → statement M
-place-spec = tie.close (tie.spec returns returns-2)
+pub place_spec : {M : Type 1} → statement M
+place_spec = tie.close (tie.spec returns returns-2)

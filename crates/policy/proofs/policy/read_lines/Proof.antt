@@ -7,8 +7,8 @@ use Rattle.policy.proofs.policy.read_lines.Lts as lts
 use mathlib.Core.Path.{sym, ◌∙◌}
 use Prim.Native.Nat.{◌-◌}
 use lib.ListN.{length}
-use Rattle.policy.proofs.Reading.{ReadingFrom, reading-start, reading-more, reading-stop, reading-end}
-use Rattle.policy.proofs.Reading.{ReadingFrom, reading-start, reading-more, reading-stop, reading-end, line-further}
+use Rattle.policy.proofs.Reading.{ReadingFrom, reading_start, reading_more, reading_stop, reading_end}
+use Rattle.policy.proofs.Reading.{ReadingFrom, reading_start, reading_more, reading_stop, reading_end, line_further}
 
 abbrev invariant-loop : tie.invariant-loop
 invariant-loop text rules₀ count₀ defaults₀ line₀ i₀ rules count defaults line i = ReadingFrom text rules count defaults line i
@@ -23,7 +23,7 @@ first-defaults-requires : tie.Need-first-defaults-requires invariant-loop decrea
 first-defaults-requires c κs = search rules
 
 loop-holds : tie.Need-loop-init invariant-loop decreases-loop
-loop-holds c = rw c.first-defaults.ensures (reading-start _ _)
+loop-holds c = rw c.first-defaults.ensures (reading_start _ _)
 
 run-end-requires : tie.Need-run-end-requires invariant-loop decreases-loop
 run-end-requires c κs = search rules
@@ -44,7 +44,7 @@ refuse-requires : tie.Need-refuse-requires invariant-loop decreases-loop
 refuse-requires c κs = search rules
 
 returns : tie.Need-returns invariant-loop decreases-loop
-returns c = reading-stop c.before.before.before.before.before.before.before.before.loop.invariant (omega arith) _ c.before.before.before.before.before.before.run-end.ensures c.before.before.before.before.before.read-line.ensures (sym c.before.before.before.before.fault-of.ensures ∙ c.before.before.refusal.given.1) c.refuse.ensures
+returns c = reading_stop c.before.before.before.before.before.before.before.before.loop.invariant (omega arith) _ c.before.before.before.before.before.before.run-end.ensures c.before.before.before.before.before.read-line.ensures (sym c.before.before.before.before.fault-of.ensures ∙ c.before.before.refusal.given.1) c.refuse.ensures
 
 place-requires : tie.Need-place-requires invariant-loop decreases-loop
 place-requires c κs = search rules
@@ -80,19 +80,19 @@ add-line : tie.Need-overflow-add-line invariant-loop decreases-loop
 add-line c = search rules
 
 loop-less : tie.Need-loop-smaller invariant-loop decreases-loop
-loop-less c = let l = line-further _ _ _ _ (omega arith) c.before.before.before.before.before.before.before.before.before.before.run-end.ensures.low c.next-line.ensures in omega arith
+loop-less c = let l = line_further _ _ _ _ (omega arith) c.before.before.before.before.before.before.before.before.before.before.run-end.ensures.low c.next-line.ensures in omega arith
 
 loop-again : tie.Need-loop-preserved invariant-loop decreases-loop
-loop-again c = reading-more c.before.before.before.before.before.before.before.before.before.before.before.before.loop.invariant (omega arith) _ c.before.before.before.before.before.before.before.before.before.before.run-end.ensures c.next-line.ensures c.before.before.before.before.before.before.before.before.before.read-line.ensures _ c.before.before.before.before.before.before.before.before.fault-of.ensures c.before.before.before.before.before.before.enum_told.given.1 c.before.before.before.before.before.place.ensures.0 c.before.before.before.rule_or.ensures c.before.before.rules-in.ensures.0 c.before.with-line.ensures
+loop-again c = reading_more c.before.before.before.before.before.before.before.before.before.before.before.before.loop.invariant (omega arith) _ c.before.before.before.before.before.before.before.before.before.before.run-end.ensures c.next-line.ensures c.before.before.before.before.before.before.before.before.before.read-line.ensures _ c.before.before.before.before.before.before.before.before.fault-of.ensures c.before.before.before.before.before.before.enum_told.given.1 c.before.before.before.before.before.place.ensures.0 c.before.before.before.rule_or.ensures c.before.before.rules-in.ensures.0 c.before.with-line.ensures
 
 answer-requires : tie.Need-answer-requires invariant-loop decreases-loop
 answer-requires c κs = search rules
 
 returns-2 : tie.Need-returns-2 invariant-loop decreases-loop
-returns-2 c = rw c.answer.ensures (reading-end c.before.before.loop.invariant (omega arith))
+returns-2 c = rw c.answer.ensures (reading_end c.before.before.loop.invariant (omega arith))
 
-pub read-lines-spec : {M : Type 1} → statement M
-read-lines-spec =
+pub read_lines_spec : {M : Type 1} → statement M
+read_lines_spec =
     tie.close
     (tie.spec
     invariant-loop

@@ -17,5 +17,5 @@ answer-requires c κs = search rules
 returns : tie.Need-returns
 returns c = rw (c.answer.ensures, c.before.first-defaults.ensures) (refuses _ _ _)
 
-pub refuse-spec : {M : Type 1} → statement M
-refuse-spec = tie.close (tie.spec no-rule-requires first-defaults-requires answer-requires returns)
+pub refuse_spec : {M : Type 1} → statement M
+refuse_spec = tie.close (tie.spec no-rule-requires first-defaults-requires answer-requires returns)

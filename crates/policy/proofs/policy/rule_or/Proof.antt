@@ -3,7 +3,7 @@ use Rattle.policy.proofs.policy.rule_or.Statement.{statement}
 use Rattle.policy.proofs.policy.rule_or.Tie as tie
 use Rattle.policy.proofs.policy.rule_or.Reads as reads
 use Rattle.policy.proofs.policy.rule_or.Lts as lts
-use Rattle.policy.specs.Reading.{ruleOr}
+use Rattle.policy.specs.Reading.{rule_or}
 
 enum_told : tie.Need-enum-told
 enum_told c = search rules
@@ -24,31 +24,31 @@ enum-told-5 : tie.Need-enum-told-5
 enum-told-5 c = search rules
 
 returns : tie.Need-returns
-unfolding ruleOr
+unfolding rule_or
 returns c = rw c.enum_told.given.1
 
 returns-2 : tie.Need-returns-2
-unfolding ruleOr
+unfolding rule_or
 returns-2 c = rw c.before.said.given.1
 
 returns-3 : tie.Need-returns-3
-unfolding ruleOr
+unfolding rule_or
 returns-3 c = rw c.enum-told2.given.1
 
 returns-4 : tie.Need-returns-4
-unfolding ruleOr
+unfolding rule_or
 returns-4 c = rw c.enum-told3.given.1
 
 returns-5 : tie.Need-returns-5
-unfolding ruleOr
+unfolding rule_or
 returns-5 c = rw c.enum-told4.given.1
 
 returns-6 : tie.Need-returns-6
-unfolding ruleOr
+unfolding rule_or
 returns-6 c = rw c.enum-told5.given.1
 
-pub rule-or-spec : {M : Type 1} → statement M
-rule-or-spec =
+pub rule_or_spec : {M : Type 1} → statement M
+rule_or_spec =
     tie.close
     (tie.spec
     enum_told

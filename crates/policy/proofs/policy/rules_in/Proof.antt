@@ -3,7 +3,7 @@ use Rattle.policy.proofs.policy.rules_in.Statement.{statement}
 use Rattle.policy.proofs.policy.rules_in.Tie as tie
 use Rattle.policy.proofs.policy.rules_in.Reads as reads
 use Rattle.policy.proofs.policy.rules_in.Lts as lts
-use Rattle.policy.specs.Reading.{rulesIn}
+use Rattle.policy.specs.Reading.{rules_in}
 use native.Mathlib.Omega.{arith}
 
 enum_told : tie.Need-enum-told
@@ -25,31 +25,31 @@ enum-told-6 : tie.Need-enum-told-6
 enum-told-6 c = search rules
 
 returns : tie.Need-returns
-unfolding rulesIn
+unfolding rules_in
 returns c = (rw c.enum_told.given.1, omega arith)
 
 returns-2 : tie.Need-returns-2
-unfolding rulesIn
+unfolding rules_in
 returns-2 c = (rw c.enum-told2.given.1, omega arith)
 
 returns-3 : tie.Need-returns-3
-unfolding rulesIn
+unfolding rules_in
 returns-3 c = (rw c.enum-told3.given.1, omega arith)
 
 returns-4 : tie.Need-returns-4
-unfolding rulesIn
+unfolding rules_in
 returns-4 c = (rw c.enum-told4.given.1, omega arith)
 
 returns-5 : tie.Need-returns-5
-unfolding rulesIn
+unfolding rules_in
 returns-5 c = (rw c.enum-told5.given.1, omega arith)
 
 returns-6 : tie.Need-returns-6
-unfolding rulesIn
+unfolding rules_in
 returns-6 c = (rw c.enum-told6.given.1, omega arith)
 
-pub rules-in-spec : {M : Type 1} → statement M
-rules-in-spec =
+pub rules_in_spec : {M : Type 1} → statement M
+rules_in_spec =
     tie.close
     (tie.spec
     enum_told

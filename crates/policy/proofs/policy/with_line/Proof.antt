@@ -3,7 +3,7 @@ use Rattle.policy.proofs.policy.with_line.Statement.{statement}
 use Rattle.policy.proofs.policy.with_line.Tie as tie
 use Rattle.policy.proofs.policy.with_line.Reads as reads
 use Rattle.policy.proofs.policy.with_line.Lts as lts
-use Rattle.policy.specs.Reading.{withLine}
+use Rattle.policy.specs.Reading.{with_line}
 
 enum_told : tie.Need-enum-told
 enum_told c = search rules
@@ -24,31 +24,31 @@ enum-told-3 : tie.Need-enum-told-3
 enum-told-3 c = search rules
 
 returns : tie.Need-returns
-unfolding withLine
+unfolding with_line
 returns c = rw c.enum_told.given.1
 
 returns-2 : tie.Need-returns-2
-unfolding withLine
+unfolding with_line
 returns-2 c = rw c.enum-told2.given.1
 
 returns-3 : tie.Need-returns-3
-unfolding withLine
+unfolding with_line
 returns-3 c = rw c.before.said.given.1
 
 returns-4 : tie.Need-returns-4
-unfolding withLine
+unfolding with_line
 returns-4 c = rw c.before.said2.given.1
 
 returns-5 : tie.Need-returns-5
-unfolding withLine
+unfolding with_line
 returns-5 c = rw c.before.said3.given.1
 
 returns-6 : tie.Need-returns-6
-unfolding withLine
+unfolding with_line
 returns-6 c = rw c.enum-told3.given.1
 
-pub with-line-spec : {M : Type 1} → statement M
-with-line-spec =
+pub with_line_spec : {M : Type 1} → statement M
+with_line_spec =
     tie.close
     (tie.spec
     enum_told

@@ -5,9 +5,9 @@ use Rattle.policy_print.proofs.display.put_rules.Tie as tie
 use Rattle.policy_print.proofs.display.put_rules.Reads as reads
 use Rattle.policy_print.proofs.display.put_rules.Lts as lts
 use Prim.Native.Nat.{◌-◌}
-use Rattle.policy_print.proofs.Parts.{RulesTo, rules-start, rules-more, rule-narrow, rule_fits}
-use Rattle.text.proofs.Writes.{wrote-length}
-use Rattle.policy_print.proofs.Parts.{rules-end}
+use Rattle.policy_print.proofs.Parts.{RulesTo, rules_start, rules_more, rule_narrow, rule_fits}
+use Rattle.text.proofs.Writes.{wrote_length}
+use Rattle.policy_print.proofs.Parts.{rules_end}
 
 abbrev invariant-loop : tie.invariant-loop
 invariant-loop text n out₀ at policy k₀ i₀ out k i = RulesTo text policy.rules policy.count n at i out₀ out k
@@ -16,7 +16,7 @@ abbrev decreases-loop : tie.decreases-loop
 decreases-loop text n out₀ at policy k₀ i₀ out k i = policy.count - i
 
 loop-holds : tie.Need-loop-init invariant-loop decreases-loop
-loop-holds c = rules-start _ _ _ _ _ _ (omega arith)
+loop-holds c = rules_start _ _ _ _ _ _ (omega arith)
 
 mul-rule : tie.Need-overflow-mul-rule invariant-loop decreases-loop
 mul-rule c = search rules
@@ -25,7 +25,7 @@ element-copy-out-rule : tie.Need-element-copy-out-rule invariant-loop decreases-
 element-copy-out-rule c = search rules
 
 put-rule-requires : tie.Need-put-rule-requires invariant-loop decreases-loop
-put-rule-requires c κs = (c.before.before.before.before.before.before.requires.0.rules.each c.before.before.before.loop.i _ (omega arith), rule-narrow _ _ _ _ _ _ (omega arith) (omega (arith, c.before.before.before.before.before.before.requires.0.few, c.before.before.before.before.before.before.requires.0.long)) c.before.before.before.before.before.before.requires.1, rule_fits _ _ _ _ _ _ (omega arith) (omega (arith, c.before.before.before.before.before.before.requires.0.few, c.before.before.before.before.before.before.requires.0.long)) c.before.before.before.loop.invariant c.before.before.before.before.before.before.requires.2)
+put-rule-requires c κs = (c.before.before.before.before.before.before.requires.0.rules.each c.before.before.before.loop.i _ (omega arith), rule_narrow _ _ _ _ _ _ (omega arith) (omega (arith, c.before.before.before.before.before.before.requires.0.few, c.before.before.before.before.before.before.requires.0.long)) c.before.before.before.before.before.before.requires.1, rule_fits _ _ _ _ _ _ (omega arith) (omega (arith, c.before.before.before.before.before.before.requires.0.few, c.before.before.before.before.before.before.requires.0.long)) c.before.before.before.loop.invariant c.before.before.before.before.before.before.requires.2)
 
 add-i : tie.Need-overflow-add-i invariant-loop decreases-loop
 add-i c = search rules
@@ -34,16 +34,16 @@ loop-less : tie.Need-loop-smaller invariant-loop decreases-loop
 loop-less c = search rules
 
 loop-again : tie.Need-loop-preserved invariant-loop decreases-loop
-loop-again c = rules-more _ _ _ _ _ _ (omega arith) (omega (arith, c.before.before.before.before.before.before.before.before.before.requires.0.few, c.before.before.before.before.before.before.before.before.before.requires.0.long)) c.before.before.before.before.before.before.loop.invariant c.before.before.put-rule.ensures
+loop-again c = rules_more _ _ _ _ _ _ (omega arith) (omega (arith, c.before.before.before.before.before.before.before.before.before.requires.0.few, c.before.before.before.before.before.before.before.before.before.requires.0.long)) c.before.before.before.before.before.before.loop.invariant c.before.before.put-rule.ensures
 
 same_length : tie.Need-same-length invariant-loop decreases-loop
-same_length c = wrote-length c.before.loop.invariant.wrote
+same_length c = wrote_length c.before.loop.invariant.wrote
 
 returns : tie.Need-returns invariant-loop decreases-loop
-returns c = rules-end c.before.loop.invariant (omega arith)
+returns c = rules_end c.before.loop.invariant (omega arith)
 
-pub put-rules-spec : {M : Type 1} → statement M
-put-rules-spec =
+pub put_rules_spec : {M : Type 1} → statement M
+put_rules_spec =
     tie.close
     (tie.spec
     invariant-loop

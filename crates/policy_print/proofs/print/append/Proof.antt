@@ -3,7 +3,7 @@ use Rattle.policy_print.proofs.print.append.Statement.{statement}
 use Rattle.policy_print.proofs.print.append.Tie as tie
 use Rattle.policy_print.proofs.print.append.Reads as reads
 use Rattle.policy_print.proofs.print.append.Lts as lts
-use Rattle.policy_print.proofs.Whole.{refused-is, read_as, refused_as, appended-first}
+use Rattle.policy_print.proofs.Whole.{refused_is, read_as, refused_as, appended_first}
 
 parse-requires : tie.Need-parse-requires
 parse-requires c κs = search rules
@@ -24,10 +24,10 @@ returns : tie.Need-returns
 returns c = search rules
 
 returns-2 : tie.Need-returns-2
-returns-2 c = refused-is _ _ _ (appended-first _ _ _ (refused_as _ _ c.before.before.before.before.parse.ensures c.before.verdict.given.1))
+returns-2 c = refused_is _ _ _ (appended_first _ _ _ (refused_as _ _ c.before.before.before.before.parse.ensures c.before.verdict.given.1))
 
-pub append-spec : {M : Type 1} → statement M
-append-spec =
+pub append_spec : {M : Type 1} → statement M
+append_spec =
     tie.close
     (tie.spec
     parse-requires

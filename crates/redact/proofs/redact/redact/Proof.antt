@@ -3,10 +3,10 @@ use Rattle.redact.proofs.redact.redact.Tie as tie
 use borrow.Author.Rules.{rules}
 use mathlib.Core.Path.{sym, ap, ◌∙◌}
 use native.Mathlib.Omega.{arith}
-use Rattle.run_model.specs.Entries.{outcomeWithReport, redactOutcome, redactAnswer}
-use Rattle.entries.specs.Returned.{lent, lentReport}
-use Rattle.entries.proofs.Outcomes.{short-answer, wide-output}
-use Rattle.redact.proofs.Laws.{answered-done, returned-done, returned-refused}
+use Rattle.run_model.specs.Entries.{outcome_with_report, redact_outcome, redact_answer}
+use Rattle.entries.specs.Returned.{lent, lent_report}
+use Rattle.entries.proofs.Outcomes.{short_answer, wide_output}
+use Rattle.redact.proofs.Laws.{answered_done, returned_done, returned_refused}
 
 is-short-requires : tie.Need-is-short-requires
 is-short-requires c κs = search rules
@@ -24,17 +24,17 @@ same-length-3 : tie.Need-same-length-3
 same-length-3 c = search rules
 
 returns : tie.Need-returns
-unfolding redactOutcome redactAnswer lentReport
-returns c = c.before.before.before.before.before.before.refuse-report.ensures ∙ ap (outcomeWithReport _) (short-answer _ _ (sym c.before.before.before.before.before.before.before.before.before.before.before.is-short.ensures ∙ c.before.before.before.before.before.before.before.before.before.before.if1.true))
+unfolding redact_outcome redact_answer lent_report
+returns c = c.before.before.before.before.before.before.refuse-report.ensures ∙ ap (outcome_with_report _) (short_answer _ _ (sym c.before.before.before.before.before.before.before.before.before.before.before.is-short.ensures ∙ c.before.before.before.before.before.before.before.before.before.before.if1.true))
 
 redact-by-requires : tie.Need-redact-by-requires
-redact-by-requires c κs = omega (arith, wide-output _ _ (sym c.before.before.before.is-short.ensures ∙ c.before.before.if1.false))
+redact-by-requires c κs = omega (arith, wide_output _ _ (sym c.before.before.before.is-short.ensures ∙ c.before.before.if1.false))
 
 enum-known-text-len : tie.Need-enum-known-text-len
 enum-known-text-len c = search rules
 
 finish-report-requires : tie.Need-finish-report-requires
-finish-report-requires c κs = ((answered-done c.before.before.before.before.before.before.before.before.before.before.redact-by.ensures c.before.before.before.before.text-len.given.1).text-fits, (answered-done c.before.before.before.before.before.before.before.before.before.before.redact-by.ensures c.before.before.before.before.text-len.given.1).report-fits)
+finish-report-requires c κs = ((answered_done c.before.before.before.before.before.before.before.before.before.before.redact-by.ensures c.before.before.before.before.text-len.given.1).text_fits, (answered_done c.before.before.before.before.before.before.before.before.before.before.redact-by.ensures c.before.before.before.before.text-len.given.1).report_fits)
 
 enum-known-refusal : tie.Need-enum-known-refusal
 enum-known-refusal c = search rules
@@ -52,8 +52,8 @@ same-length-6 : tie.Need-same-length-6
 same-length-6 c = search rules
 
 returns-2 : tie.Need-returns-2
-unfolding redactOutcome redactAnswer lentReport
-returns-2 c = returned-done c.before.before.before.before.before.before.before.before.before.before.before.before.before.before.before.before.before.redact-by.ensures _ _ _ (sym c.before.before.before.before.before.before.before.before.before.before.before.before.before.before.before.before.before.before.before.before.before.is-short.ensures ∙ c.before.before.before.before.before.before.before.before.before.before.before.before.before.before.before.before.before.before.before.before.if1.false) (omega (arith, c.before.before.before.before.before.before.before.before.before.before.before.before.before.before.before.before.output2)) (omega (arith, c.before.before.before.before.before.before.before.before.before.before.before.before.before.before.report2)) c.before.before.before.before.before.before.before.before.before.before.before.text-len.given.1 c.before.before.before.before.before.before.finish-report.ensures
+unfolding redact_outcome redact_answer lent_report
+returns-2 c = returned_done c.before.before.before.before.before.before.before.before.before.before.before.before.before.before.before.before.before.redact-by.ensures _ _ _ (sym c.before.before.before.before.before.before.before.before.before.before.before.before.before.before.before.before.before.before.before.before.before.is-short.ensures ∙ c.before.before.before.before.before.before.before.before.before.before.before.before.before.before.before.before.before.before.before.before.if1.false) (omega (arith, c.before.before.before.before.before.before.before.before.before.before.before.before.before.before.before.before.output2)) (omega (arith, c.before.before.before.before.before.before.before.before.before.before.before.before.before.before.report2)) c.before.before.before.before.before.before.before.before.before.before.before.text-len.given.1 c.before.before.before.before.before.before.finish-report.ensures
 
 same-length-7 : tie.Need-same-length-7
 same-length-7 c = search rules
@@ -65,11 +65,11 @@ same-length-9 : tie.Need-same-length-9
 same-length-9 c = search rules
 
 returns-3 : tie.Need-returns-3
-unfolding redactOutcome redactAnswer lentReport
-returns-3 c = returned-refused c.before.before.before.before.before.before.before.before.before.before.before.before.before.before.before.before.before.redact-by.ensures _ _ _ (sym c.before.before.before.before.before.before.before.before.before.before.before.before.before.before.before.before.before.before.before.before.before.is-short.ensures ∙ c.before.before.before.before.before.before.before.before.before.before.before.before.before.before.before.before.before.before.before.before.if1.false) (omega (arith, c.before.before.before.before.before.before.before.before.before.before.before.before.before.before.before.before.output2)) (omega (arith, c.before.before.before.before.before.before.before.before.before.before.before.before.before.before.report2)) c.before.before.before.before.before.before.before.before.before.before.before.refusal.given.1 c.before.before.before.before.before.before.refuse-report2.ensures
+unfolding redact_outcome redact_answer lent_report
+returns-3 c = returned_refused c.before.before.before.before.before.before.before.before.before.before.before.before.before.before.before.before.before.redact-by.ensures _ _ _ (sym c.before.before.before.before.before.before.before.before.before.before.before.before.before.before.before.before.before.before.before.before.before.is-short.ensures ∙ c.before.before.before.before.before.before.before.before.before.before.before.before.before.before.before.before.before.before.before.before.if1.false) (omega (arith, c.before.before.before.before.before.before.before.before.before.before.before.before.before.before.before.before.output2)) (omega (arith, c.before.before.before.before.before.before.before.before.before.before.before.before.before.before.report2)) c.before.before.before.before.before.before.before.before.before.before.before.refusal.given.1 c.before.before.before.before.before.before.refuse-report2.ensures
 
-pub redact-spec : {M : Type 1} → statement M
-redact-spec =
+pub redact_spec : {M : Type 1} → statement M
+redact_spec =
     tie.close
     (tie.spec
     is-short-requires

@@ -2,7 +2,7 @@ use Rattle.redact.proofs.redact.redact_by.Statement.{statement}
 use Rattle.redact.proofs.redact.redact_by.Tie as tie
 use borrow.Author.Rules.{rules}
 use Rattle.policy_print.proofs.Whole.{read_as, refused_as}
-use Rattle.redact.proofs.Laws.{read-not-long, policy-read, policy-refused}
+use Rattle.redact.proofs.Laws.{read_not_long, policy_read, refuses_policy}
 
 parse-requires : tie.Need-parse-requires
 parse-requires c κs = search rules
@@ -11,7 +11,7 @@ enum_told : tie.Need-enum-told
 enum_told c = search rules
 
 redact-message-requires : tie.Need-redact-message-requires
-redact-message-requires c κs = (c.before.before.before.before.before.parse.ensures.held, read-not-long _ _ (read_as _ _ c.before.before.before.before.before.parse.ensures c.before.before.enum_told.given.1), c.before.before.before.before.before.before.before.before.before.before.requires)
+redact-message-requires c κs = (c.before.before.before.before.before.parse.ensures.held, read_not_long _ _ (read_as _ _ c.before.before.before.before.before.parse.ensures c.before.before.enum_told.given.1), c.before.before.before.before.before.before.before.before.before.before.requires)
 
 enum-known-verdict : tie.Need-enum-known-verdict
 enum-known-verdict c = search rules
@@ -23,13 +23,13 @@ same-length-2 : tie.Need-same-length-2
 same-length-2 c = search rules
 
 returns : tie.Need-returns
-returns c = policy-read _ _ (read_as _ _ c.before.before.before.before.before.before.before.before.before.before.parse.ensures c.before.before.before.before.before.before.before.enum_told.given.1) c.before.before.before.before.redact-message.ensures
+returns c = policy_read _ _ (read_as _ _ c.before.before.before.before.before.before.before.before.before.before.parse.ensures c.before.before.before.before.before.before.before.enum_told.given.1) c.before.before.before.before.redact-message.ensures
 
 returns-2 : tie.Need-returns-2
-returns-2 c = policy-refused _ _ (refused_as _ _ c.before.before.before.before.parse.ensures c.before.verdict.given.1)
+returns-2 c = refuses_policy _ _ (refused_as _ _ c.before.before.before.before.parse.ensures c.before.verdict.given.1)
 
-pub redact-by-spec : {M : Type 1} → statement M
-redact-by-spec =
+pub redact_by_spec : {M : Type 1} → statement M
+redact_by_spec =
     tie.close
     (tie.spec
     parse-requires

@@ -5,7 +5,7 @@ use native.Mathlib.Omega.{arith}
 use Prim.Native.Nat.{◌+◌, ◌-◌}
 use Rattle.redact_4_leaf.specs.State.{buffers}
 use Rattle.redact_1_run.proofs.Steps.{row_inside}
-use Rattle.redact_1_run.proofs.Course.{TurnsTo, turns-start, turns-turn-ready, turns_more, turns-done, turn-held, job-held}
+use Rattle.redact_1_run.proofs.Course.{TurnsTo, turns_start, turns_turn_ready, turns_more, turns_done, turn_held, job_held}
 use mathlib.Core.Path.{◌≡◌, refl}
 use lib.ListN.{length}
 
@@ -16,7 +16,7 @@ abbrev decreases-loop : tie.decreases-loop
 decreases-loop on text segs cells₀ store₀ report₀ bytes₀ known₀ policy named₀ done₀ posture k₀ cells store report bytes known named done k = policy.count + 2 - k
 
 loop-holds : tie.Need-loop-init invariant-loop decreases-loop
-loop-holds c = (turns-start _ _ _ _ c.before.before.before.before.requires.0 _ _, refl, refl)
+loop-holds c = (turns_start _ _ _ _ c.before.before.before.before.requires.0 _ _, refl, refl)
 
 add-loop : tie.Need-overflow-add-loop invariant-loop decreases-loop
 add-loop c = omega (arith, c.before.before.before.before.before.requires.0.few)
@@ -34,10 +34,10 @@ turn-at-requires : tie.Need-turn-at-requires invariant-loop decreases-loop
 turn-at-requires c κs = search rules
 
 aim-of-requires : tie.Need-aim-of-requires invariant-loop decreases-loop
-aim-of-requires c κs = turn-held c.before.before.before.before.before.before.before.before.before.requires.0 _ c.before.before.rule-row.ensures _ _ _ c.turn_at.ensures
+aim-of-requires c κs = turn_held c.before.before.before.before.before.before.before.before.before.requires.0 _ c.before.before.rule-row.ensures _ _ _ c.turn_at.ensures
 
 next-turn-requires : tie.Need-next-turn-requires invariant-loop decreases-loop
-next-turn-requires c κs = (job-held c.before.before.before.before.before.before.before.before.before.before.before.before.before.before.before.before.requires.2 _ _ (turn-held c.before.before.before.before.before.before.before.before.before.before.before.before.before.before.before.before.requires.0 _ c.before.before.before.before.before.before.before.before.before.rule-row.ensures _ _ _ c.before.before.before.before.before.before.before.turn_at.ensures) c.before.before.before.before.before.before.aim-of.ensures, c.before.before.before.before.before.before.before.before.before.before.before.before.before.before.before.before.requires.2, turns-turn-ready _ _ _ _ c.before.before.before.before.before.before.before.before.before.before.before.before.before.before.before.before.requires.0 _ _ _ _ _ c.before.before.before.before.before.before.before.before.before.before.before.loop.invariant.0 c.before.before.before.before.before.before.before.before.before.before.before.before.before.before.before.before.requires.2 c.before.before.before.before.before.before.before.before.before.before.before.before.before.before.before.before.requires.3)
+next-turn-requires c κs = (job_held c.before.before.before.before.before.before.before.before.before.before.before.before.before.before.before.before.requires.2 _ _ (turn_held c.before.before.before.before.before.before.before.before.before.before.before.before.before.before.before.before.requires.0 _ c.before.before.before.before.before.before.before.before.before.rule-row.ensures _ _ _ c.before.before.before.before.before.before.before.turn_at.ensures) c.before.before.before.before.before.before.aim-of.ensures, c.before.before.before.before.before.before.before.before.before.before.before.before.before.before.before.before.requires.2, turns_turn_ready _ _ _ _ c.before.before.before.before.before.before.before.before.before.before.before.before.before.before.before.before.requires.0 _ _ _ _ _ c.before.before.before.before.before.before.before.before.before.before.before.loop.invariant.0 c.before.before.before.before.before.before.before.before.before.before.before.before.before.before.before.before.requires.2 c.before.before.before.before.before.before.before.before.before.before.before.before.before.before.before.before.requires.3)
 
 add-k : tie.Need-overflow-add-k invariant-loop decreases-loop
 add-k c = search (rules, c.before.before.before.before.before.before.before.before.before.before.before.before.before.before.before.loop-test, c.before.before.before.before.before.before.before.before.before.before.before.before.before.before.before.before.before.before.before.before.before.requires.0.few)
@@ -55,10 +55,10 @@ same-length-2 : tie.Need-same-length-2 invariant-loop decreases-loop
 same-length-2 c = search rules
 
 returns : tie.Need-returns invariant-loop decreases-loop
-returns c = turns-done _ _ _ _ c.before.before.before.before.before.before.requires.0 _ _ _ _ _ c.before.loop.invariant.0 c.loop-test.false
+returns c = turns_done _ _ _ _ c.before.before.before.before.before.before.requires.0 _ _ _ _ _ c.before.loop.invariant.0 c.loop-test.false
 
-pub run-turns-spec : {M : Type 1} → statement M
-run-turns-spec =
+pub run_turns_spec : {M : Type 1} → statement M
+run_turns_spec =
     tie.close
     (tie.spec
     invariant-loop

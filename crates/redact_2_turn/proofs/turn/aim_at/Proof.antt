@@ -2,13 +2,13 @@ use borrow.Author.Rules.{rules}
 use Rattle.redact_2_turn.proofs.turn.aim_at.Statement.{statement}
 use Rattle.redact_2_turn.proofs.turn.aim_at.Tie as tie
 use borrow.Author.Tests.{ne_eqb, eq-eqb}
-use Rattle.redact_2_turn.specs.Turn.{aimAt, nameByte}
+use Rattle.redact_2_turn.specs.Turn.{aim_at, name_byte}
 use native.Mathlib.Nat.{add-zero}
 use native.Mathlib.Omega.{arith}
 use Prim.Native.Nat.{◌+◌}
 
 returns : tie.Need-returns
-unfolding aimAt nameByte
+unfolding aim_at name_byte
 returns c = rw (ne_eqb _ 3 c.if1.true)
 
 shared-slice-read-t6 : tie.Need-shared-slice-read-t6
@@ -36,11 +36,11 @@ cast-t15 : tie.Need-overflow-cast-t15
 cast-t15 c = omega (arith, c.shared-slice-known3.given (c.before.before.before.before.before.args.path.segment + 2))
 
 returns-2 : tie.Need-returns-2
-unfolding aimAt nameByte
+unfolding aim_at name_byte
 returns-2 c = rw (eq-eqb _ 3 c.before.before.before.if1.false, add-zero _)
 
-pub aim-at-spec : {M : Type 1} → statement M
-aim-at-spec =
+pub aim_at_spec : {M : Type 1} → statement M
+aim_at_spec =
     tie.close
     (tie.spec
     returns

@@ -57,8 +57,8 @@ returns-5 : tie.Need-returns-5
 unfolding aim_of
 returns-5 c = rw c.before.enum-told2.given.1 c.aim-unnamed3.ensures
 
-pub aim-of-spec : {M : Type 1} → statement M
-aim-of-spec =
+pub aim_of_spec : {M : Type 1} → statement M
+aim_of_spec =
     tie.close
     (tie.spec
     enum-known-turn

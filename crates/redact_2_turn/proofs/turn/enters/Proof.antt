@@ -50,8 +50,8 @@ returns : tie.Need-returns
 unfolding cell
 returns c = enters_is _ _ _ c.before.index-fits.ensures
 
-pub enters-spec : {M : Type 1} → statement M
-enters-spec =
+pub enters_spec : {M : Type 1} → statement M
+enters_spec =
     tie.close
     (tie.spec
     mul_at

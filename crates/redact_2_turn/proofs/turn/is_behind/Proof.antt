@@ -3,7 +3,7 @@ use Rattle.redact_2_turn.proofs.turn.is_behind.Statement.{statement}
 use Rattle.redact_2_turn.proofs.turn.is_behind.Tie as tie
 use mathlib.Core.Path.{refl}
 use Rattle.er7_table.specs.Table.{cell}
-use Rattle.redact_2_turn.specs.Ordered.{isBehind}
+use Rattle.redact_2_turn.specs.Ordered.{is_behind}
 
 mul_at : tie.Need-overflow-mul-at
 mul_at c = search rules
@@ -27,11 +27,11 @@ shared-slice-read-result-2 : tie.Need-shared-slice-read-result-2
 shared-slice-read-result-2 c = search rules
 
 returns : tie.Need-returns
-unfolding isBehind cell
+unfolding is_behind cell
 returns c = refl
 
-pub is-behind-spec : {M : Type 1} → statement M
-is-behind-spec =
+pub is_behind_spec : {M : Type 1} → statement M
+is_behind_spec =
     tie.close
     (tie.spec
     mul_at

@@ -5,8 +5,8 @@ use mathlib.Core.Path.{refl, ap}
 use native.Mathlib.Omega.{arith}
 use Prim.Native.Nat.{◌-◌}
 use Rattle.redact_4_leaf.specs.State.{buffers}
-use Rattle.redact_2_turn.proofs.Visiting.{LeafLoop, skip_first, skip-next, standing-start, standing-visitable, standing-more, standing-stop, standing-end}
-use Rattle.redact_5_act.specs.State.{counted, afterStep}
+use Rattle.redact_2_turn.proofs.Visiting.{LeafLoop, skip_first, skip_next, standing_start, standing_visitable, standing_more, standing_stop, standing_end}
+use Rattle.redact_5_act.specs.State.{counted, after_step}
 
 abbrev invariant-loop : tie.invariant-loop
 invariant-loop job at text named₀ cells₀ store₀ report₀ bytes₀ known₀ tally₀ aim g i₀ named cells store report bytes known tally i = LeafLoop text job at aim g i (buffers named₀ cells₀ store₀ report₀ bytes₀ known₀) (counted tally₀) (buffers named cells store report bytes known) (counted tally)
@@ -21,13 +21,13 @@ skip-requires : tie.Need-skip-requires invariant-loop decreases-loop
 skip-requires c κs = skip_first c.before.before.before.before.before.before.before.before.requires.0 _ _ _ c.before.before.before.before.before.before.before.before.requires.1 c.before.before.before.before.before.before.before.before.requires.2 c.start-at.ensures
 
 loop-holds : tie.Need-loop-init invariant-loop decreases-loop
-loop-holds c = record { standing = standing-start c.before.before.before.before.before.before.before.before.before.requires.0 _ _ _ c.before.before.before.before.before.before.before.before.before.requires.1 c.before.before.before.before.before.before.before.before.before.requires.2 c.before.start-at.ensures c.skip.ensures; aim-is = refl; label_is = refl }
+loop-holds c = record { standing = standing_start c.before.before.before.before.before.before.before.before.before.requires.0 _ _ _ c.before.before.before.before.before.before.before.before.before.requires.1 c.before.before.before.before.before.before.before.before.before.requires.2 c.before.start-at.ensures c.skip.ensures; aim_is = refl; label_is = refl }
 
 spot-at-requires : tie.Need-spot-at-requires invariant-loop decreases-loop
 spot-at-requires c κs = search rules
 
 visit-requires : tie.Need-visit-requires invariant-loop decreases-loop
-visit-requires c κs = (c.before.before.before.before.before.before.before.before.before.before.before.before.before.before.before.before.before.before.before.before.requires.0, rw c.before.before.before.before.before.before.before.spot-at.ensures (standing-visitable c.before.before.before.before.before.before.before.before.before.before.before.before.before.before.before.before.before.before.before.before.requires.0 _ _ _ c.before.before.before.before.before.before.before.before.before.before.before.before.before.before.before.before.before.before.before.before.requires.1 c.before.before.before.before.before.before.before.before.before.before.loop.invariant.standing (omega arith)))
+visit-requires c κs = (c.before.before.before.before.before.before.before.before.before.before.before.before.before.before.before.before.before.before.before.before.requires.0, rw c.before.before.before.before.before.before.before.spot-at.ensures (standing_visitable c.before.before.before.before.before.before.before.before.before.before.before.before.before.before.before.before.before.before.before.before.requires.0 _ _ _ c.before.before.before.before.before.before.before.before.before.before.before.before.before.before.before.before.before.before.before.before.requires.1 c.before.before.before.before.before.before.before.before.before.before.loop.invariant.standing (omega arith)))
 
 enum_told : tie.Need-enum-told invariant-loop decreases-loop
 enum_told c = search rules
@@ -42,19 +42,19 @@ same-length-2 : tie.Need-same-length-2 invariant-loop decreases-loop
 same-length-2 c = search (rules, c.before.before.before.before.before.before.before.before.before.before.before.before.before.before.before.before.before.before.loop.invariant.standing.passing.kept.report)
 
 returns : tie.Need-returns invariant-loop decreases-loop
-returns c = standing-stop c.before.before.before.before.before.before.before.before.before.before.before.before.before.before.before.before.before.before.before.before.before.before.before.before.before.before.before.before.requires.0 _ _ _ c.before.before.before.before.before.before.before.before.before.before.before.before.before.before.before.before.before.before.before.before.before.before.before.before.before.before.before.before.requires.1 c.before.before.before.before.before.before.before.before.before.before.before.before.before.before.before.before.before.before.loop.invariant.standing (omega arith) (rw c.before.before.before.before.before.before.before.before.before.before.before.before.before.before.before.spot-at.ensures at c.before.before.before.before.before.before.before.visit.ensures) (ap (afterStep _) c.before.refusal.given.1)
+returns c = standing_stop c.before.before.before.before.before.before.before.before.before.before.before.before.before.before.before.before.before.before.before.before.before.before.before.before.before.before.before.before.requires.0 _ _ _ c.before.before.before.before.before.before.before.before.before.before.before.before.before.before.before.before.before.before.before.before.before.before.before.before.before.before.before.before.requires.1 c.before.before.before.before.before.before.before.before.before.before.before.before.before.before.before.before.before.before.loop.invariant.standing (omega arith) (rw c.before.before.before.before.before.before.before.before.before.before.before.before.before.before.before.spot-at.ensures at c.before.before.before.before.before.before.before.visit.ensures) (ap (after_step _) c.before.refusal.given.1)
 
 add-skip : tie.Need-overflow-add-skip invariant-loop decreases-loop
 add-skip c = search rules
 
 skip-requires-2 : tie.Need-skip-requires-2 invariant-loop decreases-loop
-skip-requires-2 c κs = skip-next c.before.before.before.before.before.before.before.before.before.before.before.before.before.before.before.before.before.before.before.before.before.before.before.before.before.before.before.before.before.requires.0 _ _ _ c.before.before.before.before.before.before.before.before.before.before.before.before.before.before.before.before.before.before.before.before.before.before.before.before.before.before.before.before.before.requires.1 c.before.before.before.before.before.before.before.before.before.before.before.before.before.before.before.before.before.before.before.loop.invariant.standing (omega arith) (rw c.before.before.before.before.before.before.before.before.before.before.before.before.before.before.before.before.spot-at.ensures at c.before.before.before.before.before.before.before.before.visit.ensures) (ap (afterStep _) c.before.before.enum_told.given.1)
+skip-requires-2 c κs = skip_next c.before.before.before.before.before.before.before.before.before.before.before.before.before.before.before.before.before.before.before.before.before.before.before.before.before.before.before.before.before.requires.0 _ _ _ c.before.before.before.before.before.before.before.before.before.before.before.before.before.before.before.before.before.before.before.before.before.before.before.before.before.before.before.before.before.requires.1 c.before.before.before.before.before.before.before.before.before.before.before.before.before.before.before.before.before.before.before.loop.invariant.standing (omega arith) (rw c.before.before.before.before.before.before.before.before.before.before.before.before.before.before.before.before.spot-at.ensures at c.before.before.before.before.before.before.before.before.visit.ensures) (ap (after_step _) c.before.before.enum_told.given.1)
 
 loop-less : tie.Need-loop-smaller invariant-loop decreases-loop
 loop-less c = search rules
 
 loop-again : tie.Need-loop-preserved invariant-loop decreases-loop
-loop-again c = record { standing = standing-more c.before.before.before.before.before.before.before.before.before.before.before.before.before.before.before.before.before.before.before.before.before.before.before.before.before.before.before.before.before.before.requires.0 _ _ _ c.before.before.before.before.before.before.before.before.before.before.before.before.before.before.before.before.before.before.before.before.before.before.before.before.before.before.before.before.before.before.requires.1 c.before.before.before.before.before.before.before.before.before.before.before.before.before.before.before.before.before.before.before.before.loop.invariant.standing (omega arith) (rw c.before.before.before.before.before.before.before.before.before.before.before.before.before.before.before.before.before.spot-at.ensures at c.before.before.before.before.before.before.before.before.before.visit.ensures) (ap (afterStep _) c.before.before.before.enum_told.given.1) (rw (c.before.before.before.before.before.before.before.before.before.before.before.before.before.before.before.before.before.before.before.before.loop.invariant.aim-is, c.before.before.before.before.before.before.before.before.before.before.before.before.before.before.before.before.before.before.before.before.loop.invariant.label_is) at c.skip2.ensures); aim-is = c.before.before.before.before.before.before.before.before.before.before.before.before.before.before.before.before.before.before.before.before.loop.invariant.aim-is; label_is = c.before.before.before.before.before.before.before.before.before.before.before.before.before.before.before.before.before.before.before.before.loop.invariant.label_is }
+loop-again c = record { standing = standing_more c.before.before.before.before.before.before.before.before.before.before.before.before.before.before.before.before.before.before.before.before.before.before.before.before.before.before.before.before.before.before.requires.0 _ _ _ c.before.before.before.before.before.before.before.before.before.before.before.before.before.before.before.before.before.before.before.before.before.before.before.before.before.before.before.before.before.before.requires.1 c.before.before.before.before.before.before.before.before.before.before.before.before.before.before.before.before.before.before.before.before.loop.invariant.standing (omega arith) (rw c.before.before.before.before.before.before.before.before.before.before.before.before.before.before.before.before.before.spot-at.ensures at c.before.before.before.before.before.before.before.before.before.visit.ensures) (ap (after_step _) c.before.before.before.enum_told.given.1) (rw (c.before.before.before.before.before.before.before.before.before.before.before.before.before.before.before.before.before.before.before.before.loop.invariant.aim_is, c.before.before.before.before.before.before.before.before.before.before.before.before.before.before.before.before.before.before.before.before.loop.invariant.label_is) at c.skip2.ensures); aim_is = c.before.before.before.before.before.before.before.before.before.before.before.before.before.before.before.before.before.before.before.before.loop.invariant.aim_is; label_is = c.before.before.before.before.before.before.before.before.before.before.before.before.before.before.before.before.before.before.before.before.loop.invariant.label_is }
 
 same-length-3 : tie.Need-same-length-3 invariant-loop decreases-loop
 same-length-3 c = search rules
@@ -63,10 +63,10 @@ same-length-4 : tie.Need-same-length-4 invariant-loop decreases-loop
 same-length-4 c = search rules
 
 returns-2 : tie.Need-returns-2 invariant-loop decreases-loop
-returns-2 c = standing-end c.before.before.before.before.before.before.before.before.before.before.before.before.requires.0 _ _ _ c.before.before.before.before.before.before.before.before.before.before.before.before.requires.1 c.before.before.loop.invariant.standing (omega arith)
+returns-2 c = standing_end c.before.before.before.before.before.before.before.before.before.before.before.before.requires.0 _ _ _ c.before.before.before.before.before.before.before.before.before.before.before.before.requires.1 c.before.before.loop.invariant.standing (omega arith)
 
-pub pass-leaves-spec : {M : Type 1} → statement M
-pass-leaves-spec =
+pub pass_leaves_spec : {M : Type 1} → statement M
+pass_leaves_spec =
     tie.close
     (tie.spec
     invariant-loop

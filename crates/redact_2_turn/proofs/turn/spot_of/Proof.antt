@@ -2,7 +2,7 @@ use borrow.Author.Rules.{rules}
 use Rattle.redact_2_turn.proofs.turn.spot_of.Statement.{statement}
 use Rattle.redact_2_turn.proofs.turn.spot_of.Tie as tie
 use mathlib.Core.Path.{refl}
-use Rattle.er7_table.specs.Table.{cell, firstLeaf}
+use Rattle.er7_table.specs.Table.{cell, first_leaf}
 use mathlib.Core.Path.{◌≡◌}
 use Prim.Native.Nat.{◌+◌, ◌*◌}
 use native.Mathlib.Omega.{arith}
@@ -32,11 +32,11 @@ element-copy-out-t14 : tie.Need-element-copy-out-t14
 element-copy-out-t14 c = search rules
 
 returns : tie.Need-returns
-unfolding cell firstLeaf
+unfolding cell first_leaf
 returns c = let e : (c.before.before.before.args.k + 1) * 8 + 1 ≡ c.before.before.before.args.k * 8 + 9 = omega arith in record { label = c.before.before.label_at.ensures; first = refl; end = rw e refl }
 
-pub spot-of-spec : {M : Type 1} → statement M
-spot-of-spec =
+pub spot_of_spec : {M : Type 1} → statement M
+spot_of_spec =
     tie.close
     (tie.spec
     mul_at

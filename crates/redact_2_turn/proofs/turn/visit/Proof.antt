@@ -1,7 +1,7 @@
 use borrow.Author.Rules.{rules}
 use Rattle.redact_2_turn.proofs.turn.visit.Statement.{statement}
 use Rattle.redact_2_turn.proofs.turn.visit.Tie as tie
-use Rattle.redact_2_turn.proofs.Visiting.{apply-asks, collapse-asks, reject-asks, sweep-asks, sweep-unnamed, rejected, never-idle, applied, collapsed, swept}
+use Rattle.redact_2_turn.proofs.Visiting.{apply_asks, collapse_asks, reject_asks, sweep_asks, sweep_unnamed, rejected, never_idle, applied, collapsed, swept}
 
 enum-known-turn : tie.Need-enum-known-turn
 enum-known-turn c = search rules
@@ -10,25 +10,25 @@ mark-requires : tie.Need-mark-requires
 mark-requires c κs = search rules
 
 apply-leaf-requires : tie.Need-apply-leaf-requires
-apply-leaf-requires c κs = apply-asks c.before.before.before.before.before.before.before.before.before.before.before.before.before.before.before.requires.0 c.before.before.before.before.before.before.before.before.before.before.before.before.before.before.before.requires.1 c.before.before.before.before.before.before.before.before.before.turn.given.1
+apply-leaf-requires c κs = apply_asks c.before.before.before.before.before.before.before.before.before.before.before.before.before.before.before.requires.0 c.before.before.before.before.before.before.before.before.before.before.before.before.before.before.before.requires.1 c.before.before.before.before.before.before.before.before.before.turn.given.1
 
 enum-known-turn-2 : tie.Need-enum-known-turn-2
 enum-known-turn-2 c = search rules
 
 collapse-leaf-requires : tie.Need-collapse-leaf-requires
-collapse-leaf-requires c κs = collapse-asks c.before.before.before.before.before.before.before.before.before.before.before.before.before.requires.0 c.before.before.before.before.before.before.before.before.before.before.before.before.before.requires.1 c.before.before.before.before.before.before.before.turn2.given.1
+collapse-leaf-requires c κs = collapse_asks c.before.before.before.before.before.before.before.before.before.before.before.before.before.requires.0 c.before.before.before.before.before.before.before.before.before.before.before.before.before.requires.1 c.before.before.before.before.before.before.before.turn2.given.1
 
 enum-known-turn-3 : tie.Need-enum-known-turn-3
 enum-known-turn-3 c = search rules
 
 act-on-requires : tie.Need-act-on-requires
-act-on-requires c κs = reject-asks c.before.before.before.before.before.before.before.before.before.before.before.before.requires.0 c.before.before.before.before.before.before.before.before.before.before.before.before.requires.1 c.before.before.before.before.before.before.turn3.given.1
+act-on-requires c κs = reject_asks c.before.before.before.before.before.before.before.before.before.before.before.before.requires.0 c.before.before.before.before.before.before.before.before.before.before.before.before.requires.1 c.before.before.before.before.before.before.turn3.given.1
 
 enum_told : tie.Need-enum-told
 enum_told c = search rules
 
 sweep-leaf-requires : tie.Need-sweep-leaf-requires
-sweep-leaf-requires c κs = sweep-asks c.before.before.before.before.before.before.before.before.before.before.before.before.requires.0 c.before.before.before.before.before.before.before.before.before.before.before.before.requires.1 c.before.before.before.before.before.before.enum_told.given.1
+sweep-leaf-requires c κs = sweep_asks c.before.before.before.before.before.before.before.before.before.before.before.before.requires.0 c.before.before.before.before.before.before.before.before.before.before.before.before.requires.1 c.before.before.before.before.before.before.enum_told.given.1
 
 enum-told-2 : tie.Need-enum-told-2
 enum-told-2 c = search rules
@@ -67,13 +67,13 @@ same-length-8 : tie.Need-same-length-8
 same-length-8 c = search rules
 
 returns-4 : tie.Need-returns-4
-returns-4 c = swept _ c.before.before.before.before.before.before.before.before.before.before.before.enum_told.given.1 (c.before.before.before.before.sweep-leaf.ensures _ (sweep-unnamed c.before.before.before.before.before.before.before.before.before.before.before.before.before.before.before.before.before.requires.0 c.before.before.before.before.before.before.before.before.before.before.before.before.before.before.before.before.before.requires.1 c.before.before.before.before.before.before.before.before.before.before.before.enum_told.given.1))
+returns-4 c = swept _ c.before.before.before.before.before.before.before.before.before.before.before.enum_told.given.1 (c.before.before.before.before.sweep-leaf.ensures _ (sweep_unnamed c.before.before.before.before.before.before.before.before.before.before.before.before.before.before.before.before.before.requires.0 c.before.before.before.before.before.before.before.before.before.before.before.before.before.before.before.before.before.requires.1 c.before.before.before.before.before.before.before.before.before.before.before.enum_told.given.1))
 
 returns-5 : tie.Need-returns-5
-returns-5 c = never-idle c.before.before.before.before.before.before.requires.0 c.before.before.before.before.before.before.requires.1 c.enum-told2.given.1
+returns-5 c = never_idle c.before.before.before.before.before.before.requires.0 c.before.before.before.before.before.before.requires.1 c.enum-told2.given.1
 
-pub visit-spec : {M : Type 1} → statement M
-visit-spec =
+pub visit_spec : {M : Type 1} → statement M
+visit_spec =
     tie.close
     (tie.spec
     enum-known-turn

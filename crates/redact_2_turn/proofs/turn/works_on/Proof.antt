@@ -3,9 +3,9 @@ use Rattle.redact_2_turn.proofs.turn.works_on.Statement.{statement}
 use Rattle.redact_2_turn.proofs.turn.works_on.Tie as tie
 use mathlib.Core.Path.{sym, ◌∙◌}
 use Rattle.er7_table.specs.Table.{cell}
-use Rattle.redact_2_turn.specs.Turn.{works, isTouched}
+use Rattle.redact_2_turn.specs.Turn.{works, is_touched}
 use borrow.Author.Tests.{not-true}
-use Rattle.redact_2_turn.proofs.Aims.{works-elsewhere}
+use Rattle.redact_2_turn.proofs.Aims.{works_elsewhere}
 
 mul_at : tie.Need-overflow-mul-at
 mul_at c = search rules
@@ -24,7 +24,7 @@ index-fits-requires c κs = search rules
 
 returns : tie.Need-returns
 unfolding cell
-returns c = sym (works-elsewhere _ _ _ _ _ (sym c.before.index-fits.ensures ∙ not-true _ c.if1.true))
+returns c = sym (works_elsewhere _ _ _ _ _ (sym c.before.index-fits.ensures ∙ not-true _ c.if1.true))
 
 add-live : tie.Need-overflow-add-live
 add-live c = search rules
@@ -54,11 +54,11 @@ reaches-place-requires : tie.Need-reaches-place-requires
 reaches-place-requires c κs = search rules
 
 returns-2 : tie.Need-returns-2
-unfolding works isTouched cell
+unfolding works is_touched cell
 returns-2 c = sym (rw (← c.before.before.before.before.place_at.ensures, ← c.before.before.before.touchable.ensures, ← c.before.before.reaches-place.ensures _))
 
-pub works-on-spec : {M : Type 1} → statement M
-works-on-spec =
+pub works_on_spec : {M : Type 1} → statement M
+works_on_spec =
     tie.close
     (tie.spec
     mul_at

@@ -2,8 +2,8 @@ use borrow.Author.Rules.{rules}
 use Rattle.redact_3_node.proofs.node.leaf_size.Statement.{statement}
 use Rattle.redact_3_node.proofs.node.leaf_size.Tie as tie
 use native.Mathlib.Omega.{arith}
-use Rattle.redact_3_node.proofs.Nodes.{leaf-none, leaf-some}
-use Rattle.redact_4_leaf.proofs.Acting.{live-length}
+use Rattle.redact_3_node.proofs.Nodes.{leaf_none, leaf_some}
+use Rattle.redact_4_leaf.proofs.Acting.{live_length}
 use Rattle.er7_table.specs.Table.{cell}
 
 mul_at : tie.Need-overflow-mul-at
@@ -20,7 +20,7 @@ shared-slice-read-if1 c = search rules
 
 returns : tie.Need-returns
 unfolding cell
-returns c = leaf-none _ _ c.if1.true
+returns c = leaf_none _ _ c.if1.true
 
 add-result : tie.Need-overflow-add-result
 add-result c = search rules
@@ -33,14 +33,14 @@ shared-slice-read-result c = search rules
 
 add-result-2 : tie.Need-overflow-add-result-2
 unfolding cell
-add-result-2 c = omega (arith, live-length c.before.before.before.args.cells.now c.before.before.before.args.i c.before.if1.false)
+add-result-2 c = omega (arith, live_length c.before.before.before.args.cells.now c.before.before.before.args.i c.before.if1.false)
 
 returns-2 : tie.Need-returns-2
 unfolding cell
-returns-2 c = leaf-some _ _ c.before.if1.false
+returns-2 c = leaf_some _ _ c.before.if1.false
 
-pub leaf-size-spec : {M : Type 1} → statement M
-leaf-size-spec =
+pub leaf_size_spec : {M : Type 1} → statement M
+leaf_size_spec =
     tie.close
     (tie.spec
     mul_at

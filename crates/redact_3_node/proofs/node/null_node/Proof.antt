@@ -4,7 +4,7 @@ use Rattle.redact_3_node.proofs.node.null_node.Tie as tie
 use native.Mathlib.Omega.{arith}
 use mathlib.Core.Path.{sym, ◌∙◌}
 use Rattle.er7_table.specs.Table.{cell}
-use Rattle.redact_3_node.proofs.Collapses.{already-is, went-is, node_stays, node-becomes, rest-ready, rest-fits, ready-learnable}
+use Rattle.redact_3_node.proofs.Collapses.{already_is, went_is, node_stays, node_becomes, rest_ready, rest_fits, ready_learnable}
 
 mul-row : tie.Need-overflow-mul-row
 mul-row c = search rules
@@ -29,13 +29,13 @@ slice-read-len c = search rules
 
 add-stop : tie.Need-overflow-add-stop
 unfolding cell
-add-stop c = omega (arith, (ready-learnable c.before.before.before.before.before.requires.1).inside c.before.before.before.before.before.args.at.index c.before.before.before.before.before.requires.1.inside)
+add-stop c = omega (arith, (ready_learnable c.before.before.before.before.before.requires.1).inside c.before.before.before.before.before.args.at.index c.before.before.before.before.before.requires.1.inside)
 
 add-leaves-size : tie.Need-overflow-add-leaves-size
 add-leaves-size c = search rules
 
 leaves-size-requires : tie.Need-leaves-size-requires
-leaves-size-requires c κs = rest-ready c.before.before.before.before.before.before.requires.1
+leaves-size-requires c κs = rest_ready c.before.before.before.before.before.before.requires.1
 
 sub-is-null : tie.Need-overflow-sub-is-null
 sub-is-null c = search rules
@@ -45,7 +45,7 @@ part-is-null-start c = search rules
 
 part-is-null-end : tie.Need-slice-bounds-is-null-end
 unfolding cell
-part-is-null-end c = omega (arith, (ready-learnable c.before.before.before.before.before.before.before.before.before.requires.1).inside c.before.before.before.before.before.before.before.before.before.args.at.index c.before.before.before.before.before.before.before.before.before.requires.1.inside)
+part-is-null-end c = omega (arith, (ready_learnable c.before.before.before.before.before.before.before.before.before.requires.1).inside c.before.before.before.before.before.before.before.before.before.args.at.index c.before.before.before.before.before.before.before.before.before.requires.1.inside)
 
 is-null-requires : tie.Need-is-null-requires
 is-null-requires c κs = search rules
@@ -55,11 +55,11 @@ same_length c = search rules
 
 returns : tie.Need-returns
 unfolding cell
-returns c = node_stays c.before.before.before.before.before.before.before.before.before.before.before.before.requires.1 _ _ (sym (already-is _ _ _ _ c.before.before.before.before.before.leaves-size.ensures c.before.is-null.ensures) ∙ c.if1.true)
+returns c = node_stays c.before.before.before.before.before.before.before.before.before.before.before.before.requires.1 _ _ (sym (already_is _ _ _ _ c.before.before.before.before.before.leaves-size.ensures c.before.is-null.ensures) ∙ c.if1.true)
 
 add-put-null-change : tie.Need-overflow-add-put-null-change
 unfolding cell
-add-put-null-change c = omega (arith, c.before.before.before.before.before.leaves-size.ensures, rest-fits c.before.before.before.before.before.before.before.before.before.before.before.before.requires.1, (ready-learnable c.before.before.before.before.before.before.before.before.before.before.before.before.requires.1).inside c.before.before.before.before.before.before.before.before.before.before.before.before.args.at.index c.before.before.before.before.before.before.before.before.before.before.before.before.requires.1.inside)
+add-put-null-change c = omega (arith, c.before.before.before.before.before.leaves-size.ensures, rest_fits c.before.before.before.before.before.before.before.before.before.before.before.before.requires.1, (ready_learnable c.before.before.before.before.before.before.before.before.before.before.before.before.requires.1).inside c.before.before.before.before.before.before.before.before.before.before.before.before.args.at.index c.before.before.before.before.before.before.before.before.before.before.before.before.requires.1.inside)
 
 put-null-change-requires : tie.Need-put-null-change-requires
 put-null-change-requires c κs = search rules
@@ -72,10 +72,10 @@ same-length-3 c = search rules
 
 returns-2 : tie.Need-returns-2
 unfolding cell
-returns-2 c = node-becomes c.before.before.before.before.before.before.before.before.before.before.before.before.before.before.before.before.before.before.before.before.before.requires.1 _ _ (sym (already-is _ _ _ _ c.before.before.before.before.before.before.before.before.before.before.before.before.before.before.leaves-size.ensures c.before.before.before.before.before.before.before.before.before.before.is-null.ensures) ∙ c.before.before.before.before.before.before.before.before.before.if1.false) (went-is _ _ _ _ c.before.before.before.before.before.before.before.before.before.before.before.before.before.before.leaves-size.ensures c.before.before.before.before.before.before.before.before.before.before.before.before.before.before.before.before.before.before.before.before.before.requires.1) c.before.before.before.before.put-null-change.ensures
+returns-2 c = node_becomes c.before.before.before.before.before.before.before.before.before.before.before.before.before.before.before.before.before.before.before.before.before.requires.1 _ _ (sym (already_is _ _ _ _ c.before.before.before.before.before.before.before.before.before.before.before.before.before.before.leaves-size.ensures c.before.before.before.before.before.before.before.before.before.before.is-null.ensures) ∙ c.before.before.before.before.before.before.before.before.before.if1.false) (went_is _ _ _ _ c.before.before.before.before.before.before.before.before.before.before.before.before.before.before.leaves-size.ensures c.before.before.before.before.before.before.before.before.before.before.before.before.before.before.before.before.before.before.before.before.before.requires.1) c.before.before.before.before.put-null-change.ensures
 
-pub null-node-spec : {M : Type 1} → statement M
-null-node-spec =
+pub null_node_spec : {M : Type 1} → statement M
+null_node_spec =
     tie.close
     (tie.spec
     mul-row

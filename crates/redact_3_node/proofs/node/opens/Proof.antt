@@ -1,7 +1,7 @@
 use borrow.Author.Rules.{rules}
 use Rattle.redact_3_node.proofs.node.opens.Statement.{statement}
 use Rattle.redact_3_node.proofs.node.opens.Tie as tie
-use Rattle.redact_3_node.proofs.Nodes.{opens-is}
+use Rattle.redact_3_node.proofs.Nodes.{opens_is}
 use Rattle.er7_table.specs.Table.{cell}
 
 mul_at : tie.Need-overflow-mul-at
@@ -24,10 +24,10 @@ starts-requires c κs = search rules
 
 returns : tie.Need-returns
 unfolding cell
-returns c = opens-is _ _ _ c.before.place_at.ensures c.starts.ensures
+returns c = opens_is _ _ _ c.before.place_at.ensures c.starts.ensures
 
-pub opens-spec : {M : Type 1} → statement M
-opens-spec =
+pub opens_spec : {M : Type 1} → statement M
+opens_spec =
     tie.close
     (tie.spec
     mul_at

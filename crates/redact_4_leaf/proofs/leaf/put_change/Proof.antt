@@ -2,7 +2,7 @@ use borrow.Author.Rules.{rules}
 use Rattle.redact_4_leaf.proofs.leaf.put_change.Statement.{statement}
 use Rattle.redact_4_leaf.proofs.leaf.put_change.Tie as tie
 use native.Mathlib.Omega.{arith}
-use Rattle.redact_4_leaf.proofs.Acting.{countable-by, entered_by}
+use Rattle.redact_4_leaf.proofs.Acting.{countable_by, entered_by}
 
 read-tally-requires : tie.Need-read-tally-requires
 read-tally-requires c κs = search rules
@@ -14,19 +14,19 @@ set-text-requires : tie.Need-set-text-requires
 set-text-requires c κs = search rules
 
 row-at-requires : tie.Need-row-at-requires
-row-at-requires c κs = (c.before.before.before.before.before.before.before.before.before.before.before.before.requires.0, omega (arith, (countable-by c.before.before.before.before.before.before.before.read-tally.ensures c.before.before.before.before.before.before.before.before.before.before.before.before.requires.2).report, c.before.before.before.before.before.before.before.before.before.before.before.before.requires.3))
+row-at-requires c κs = (c.before.before.before.before.before.before.before.before.before.before.before.before.requires.0, omega (arith, (countable_by c.before.before.before.before.before.before.before.read-tally.ensures c.before.before.before.before.before.before.before.before.before.before.before.before.requires.2).report, c.before.before.before.before.before.before.before.before.before.before.before.before.requires.3))
 
 saturating-sub-requires : tie.Need-saturating-sub-requires
 saturating-sub-requires c κs = search rules
 
 add-size : tie.Need-overflow-add-size
-add-size c = search (rules, countable-by c.before.before.before.before.before.before.before.before.before.before.before.read-tally.ensures c.before.before.before.before.before.before.before.before.before.before.before.before.before.before.before.before.requires.2, c.saturating-sub.ensures)
+add-size c = search (rules, countable_by c.before.before.before.before.before.before.before.before.before.before.before.read-tally.ensures c.before.before.before.before.before.before.before.before.before.before.before.before.before.before.before.before.requires.2, c.saturating-sub.ensures)
 
 add-t23 : tie.Need-overflow-add-t23
-add-t23 c = search (rules, countable-by c.before.before.before.before.before.before.before.before.before.before.before.before.before.read-tally.ensures c.before.before.before.before.before.before.before.before.before.before.before.before.before.before.before.before.before.before.requires.2)
+add-t23 c = search (rules, countable_by c.before.before.before.before.before.before.before.before.before.before.before.before.before.read-tally.ensures c.before.before.before.before.before.before.before.before.before.before.before.before.before.before.before.before.before.before.requires.2)
 
 add-t25 : tie.Need-overflow-add-t25
-add-t25 c = search (rules, countable-by c.before.before.before.before.before.before.before.before.before.before.before.before.before.read-tally.ensures c.before.before.before.before.before.before.before.before.before.before.before.before.before.before.before.before.before.before.requires.2)
+add-t25 c = search (rules, countable_by c.before.before.before.before.before.before.before.before.before.before.before.before.before.read-tally.ensures c.before.before.before.before.before.before.before.before.before.before.before.before.before.before.before.before.before.before.requires.2)
 
 write-tally-requires : tie.Need-write-tally-requires
 write-tally-requires c κs = search rules
@@ -40,8 +40,8 @@ same-length-2 c = search rules
 returns : tie.Need-returns
 returns c = entered_by c.before.before.before.before.before.before.before.before.before.before.before.before.before.before.read-tally.ensures c.before.before.before.before.before.before.before.before.before.before.set-text.ensures (rw c.before.before.before.before.before.before.before.before.before.before.before.before.place_at.ensures at c.before.before.before.before.before.before.row_at.ensures.0) (omega (arith, c.before.before.before.before.before.before.row_at.ensures.1, c.before.before.before.before.before.before.before.before.before.before.before.before.before.before.before.before.before.before.before.requires.3)) (rw c.before.before.before.saturating-sub.ensures at c.write-tally.ensures)
 
-pub put-change-spec : {M : Type 1} → statement M
-put-change-spec =
+pub put_change_spec : {M : Type 1} → statement M
+put_change_spec =
     tie.close
     (tie.spec
     read-tally-requires

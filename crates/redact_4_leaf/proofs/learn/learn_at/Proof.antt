@@ -2,13 +2,13 @@ use borrow.Author.Rules.{rules}
 use Rattle.redact_4_leaf.proofs.learn.learn_at.Statement.{statement}
 use Rattle.redact_4_leaf.proofs.learn.learn_at.Tie as tie
 use native.Mathlib.Omega.{arith}
-use Rattle.redact_4_leaf.proofs.Learnt.{learning-off, learning-kept, learning-full, readable-by}
+use Rattle.redact_4_leaf.proofs.Learnt.{learning_off, learning_kept, learning_full, readable_by}
 use Rattle.er7_table.specs.Table.{cell}
-use Rattle.redact_4_leaf.specs.State.{textIn}
+use Rattle.redact_4_leaf.specs.State.{text_in}
 use borrow.Author.Tests.{not-true, not-false}
 
 returns : tie.Need-returns
-returns c = λ text q h. learning-off _ _ _ _ (not-true _ c.if1.true) h
+returns c = λ text q h. learning_off _ _ _ _ (not-true _ c.if1.true) h
 
 read-tally-requires : tie.Need-read-tally-requires
 read-tally-requires c κs = search rules
@@ -50,7 +50,7 @@ part-learn-leaf-end c = omega (arith, c.before.before.before.before.before.befor
 
 learn-leaf-requires : tie.Need-learn-leaf-requires
 unfolding cell
-learn-leaf-requires c κs = let g = readable-by c.before.before.before.before.before.before.read-tally.ensures c.before.before.before.before.before.before.before.before.before.before.before.requires in (g.good, omega (arith, g.short))
+learn-leaf-requires c κs = let g = readable_by c.before.before.before.before.before.before.read-tally.ensures c.before.before.before.before.before.before.before.before.before.before.before.requires in (g.good, omega (arith, g.short))
 
 enum-known-count : tie.Need-enum-known-count
 enum-known-count c = search rules
@@ -62,15 +62,15 @@ enum_told : tie.Need-enum-told
 enum_told c = search rules
 
 returns-2 : tie.Need-returns-2
-unfolding cell textIn
-returns-2 c = λ text q h. learning-kept _ _ _ _ _ c.before.before.before.before.before.learn-leaf.ensures _ (not-false _ c.before.before.before.before.before.before.before.before.before.before.before.before.before.before.if1.false) text c.before.before.before.before.before.before.before.before.before.before.before.before.read-tally.ensures c.before.before.before.count.given.1 q h c.write-tally.ensures
+unfolding cell text_in
+returns-2 c = λ text q h. learning_kept _ _ _ _ _ c.before.before.before.before.before.learn-leaf.ensures _ (not-false _ c.before.before.before.before.before.before.before.before.before.before.before.before.before.before.if1.false) text c.before.before.before.before.before.before.before.before.before.before.before.before.read-tally.ensures c.before.before.before.count.given.1 q h c.write-tally.ensures
 
 returns-3 : tie.Need-returns-3
-unfolding cell textIn
-returns-3 c = λ text q h. learning-full _ _ _ _ _ c.before.before.learn-leaf.ensures _ (not-false _ c.before.before.before.before.before.before.before.before.before.before.before.if1.false) text c.before.before.before.before.before.before.before.before.before.read-tally.ensures c.enum_told.given.1
+unfolding cell text_in
+returns-3 c = λ text q h. learning_full _ _ _ _ _ c.before.before.learn-leaf.ensures _ (not-false _ c.before.before.before.before.before.before.before.before.before.before.before.if1.false) text c.before.before.before.before.before.before.before.before.before.read-tally.ensures c.enum_told.given.1
 
-pub learn-at-spec : {M : Type 1} → statement M
-learn-at-spec =
+pub learn_at_spec : {M : Type 1} → statement M
+learn_at_spec =
     tie.close
     (tie.spec
     returns

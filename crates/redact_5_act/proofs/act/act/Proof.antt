@@ -2,10 +2,10 @@ use borrow.Author.Rules.{rules}
 use Rattle.redact_5_act.proofs.act.act.Statement.{statement}
 use Rattle.redact_5_act.proofs.act.act.Tie as tie
 use mathlib.Core.Path.{sym, ap, ◌∙◌}
-use Rattle.text.proofs.Kept.{same-all}
+use Rattle.text.proofs.Kept.{same_all}
 use Rattle.text.proofs.Runs.{part_slice}
-use Rattle.message_model.specs.Value.{isEmptyOrNull}
-use Rattle.redact_5_act.proofs.Acts.{acted-beside, beside-as, act-null, act-empty, act-value}
+use Rattle.message_model.specs.Value.{is_empty_or_null}
+use Rattle.redact_5_act.proofs.Acts.{acted_beside, beside_as, act_null, act_empty, act_value}
 
 is-null-action-requires : tie.Need-is-null-action-requires
 is-null-action-requires c κs = search rules
@@ -14,7 +14,7 @@ act-null-requires : tie.Need-act-null-requires
 act-null-requires c κs = search rules
 
 returns : tie.Need-returns
-returns c = acted-beside (act-null _ _ _ _ (sym (c.before.before.before.is-null-action.ensures _) ∙ c.before.before.if1.true)) c.act-null.ensures
+returns c = acted_beside (act_null _ _ _ _ (sym (c.before.before.before.is-null-action.ensures _) ∙ c.before.before.if1.true)) c.act-null.ensures
 
 add-end : tie.Need-overflow-add-end
 add-end c = search rules
@@ -32,16 +32,16 @@ is-empty-or-null-requires : tie.Need-is-empty-or-null-requires
 is-empty-or-null-requires c κs = search rules
 
 returns-2 : tie.Need-returns-2
-returns-2 c = record { out = (act-empty _ _ _ _ (sym (c.before.before.before.before.before.before.is-null-action.ensures _) ∙ c.before.before.before.before.before.if1.false) (ap isEmptyOrNull (sym (part_slice _ _ _)) ∙ sym c.before.is-empty-or-null.ensures ∙ c.if2.true), same-all); beside = same-all }
+returns-2 c = record { out = (act_empty _ _ _ _ (sym (c.before.before.before.before.before.before.is-null-action.ensures _) ∙ c.before.before.before.before.before.if1.false) (ap is_empty_or_null (sym (part_slice _ _ _)) ∙ sym c.before.is-empty-or-null.ensures ∙ c.if2.true), same_all); beside = same_all }
 
 act-value-requires : tie.Need-act-value-requires
 act-value-requires c κs = search rules
 
 returns-3 : tie.Need-returns-3
-returns-3 c = beside-as (act-value _ _ _ _ (sym (c.before.before.before.before.before.before.before.before.before.is-null-action.ensures _) ∙ c.before.before.before.before.before.before.before.before.if1.false) (ap isEmptyOrNull (sym (part_slice _ _ _)) ∙ sym c.before.before.before.before.is-empty-or-null.ensures ∙ c.before.before.before.if2.false)) same-all same-all c.act-value.ensures
+returns-3 c = beside_as (act_value _ _ _ _ (sym (c.before.before.before.before.before.before.before.before.before.is-null-action.ensures _) ∙ c.before.before.before.before.before.before.before.before.if1.false) (ap is_empty_or_null (sym (part_slice _ _ _)) ∙ sym c.before.before.before.before.is-empty-or-null.ensures ∙ c.before.before.before.if2.false)) same_all same_all c.act-value.ensures
 
-pub act-spec : {M : Type 1} → statement M
-act-spec =
+pub act_spec : {M : Type 1} → statement M
+act_spec =
     tie.close
     (tie.spec
     is-null-action-requires

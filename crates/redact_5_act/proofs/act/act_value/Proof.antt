@@ -3,9 +3,9 @@ use borrow.Author.Rules.{rules}
 use Rattle.redact_5_act.proofs.act.act_value.Statement.{statement}
 use Rattle.redact_5_act.proofs.act.act_value.Tie as tie
 use lib.ListN.{length-take, length-drop}
-use Rattle.text.proofs.Kept.{same-all, wrote-same}
+use Rattle.text.proofs.Kept.{same_all, wrote_same}
 use Rattle.text.proofs.Runs.{part_slice}
-use Rattle.redact_5_act.proofs.Acts.{value-decoded, value-replaced, beside-as}
+use Rattle.redact_5_act.proofs.Acts.{value_decoded, value_replaced, beside_as}
 
 add-end : tie.Need-overflow-add-end
 add-end c = search rules
@@ -23,13 +23,13 @@ value-requires : tie.Need-value-requires
 value-requires c κs = search rules
 
 put-applied-requires : tie.Need-put-applied-requires
-put-applied-requires c κs = (c.before.before.before.before.before.before.before.before.requires.0, c.before.before.before.before.before.before.before.before.requires.1.room, value-decoded _ _ _ c.before.before.value.ensures (simp (length-take, length-drop) (omega arith)) c.before.before.before.before.before.before.before.before.requires.1.room)
+put-applied-requires c κs = (c.before.before.before.before.before.before.before.before.requires.0, c.before.before.before.before.before.before.before.before.requires.1.room, value_decoded _ _ _ c.before.before.value.ensures (simp (length-take, length-drop) (omega arith)) c.before.before.before.before.before.before.before.before.requires.1.room)
 
 returns : tie.Need-returns
-returns c = beside-as (value-replaced _ _ _ c.before.before.before.value.ensures _ _ _ (part_slice _ _ _)) same-all (wrote-same c.before.before.before.value.ensures) c.put-applied.ensures
+returns c = beside_as (value_replaced _ _ _ c.before.before.before.value.ensures _ _ _ (part_slice _ _ _)) same_all (wrote_same c.before.before.before.value.ensures) c.put-applied.ensures
 
-pub act-value-spec : {M : Type 1} → statement M
-act-value-spec =
+pub act_value_spec : {M : Type 1} → statement M
+act_value_spec =
     tie.close
     (tie.spec
     add-end

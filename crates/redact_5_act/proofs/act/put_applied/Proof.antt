@@ -3,9 +3,9 @@ use Rattle.redact_5_act.proofs.act.put_applied.Statement.{statement}
 use Rattle.redact_5_act.proofs.act.put_applied.Tie as tie
 use mathlib.Core.Path.{sym, ◌∙◌}
 use Rattle.text.specs.Text.{between}
-use Rattle.text.proofs.Kept.{same-all}
-use Rattle.redact_5_act.specs.Inner.{decodedAt}
-use Rattle.redact_5_act.proofs.Acts.{replaced-none, replaced-some, applied-over, applied-fits, decoded-short, beside-as}
+use Rattle.text.proofs.Kept.{same_all}
+use Rattle.redact_5_act.specs.Inner.{decoded_at}
+use Rattle.redact_5_act.proofs.Acts.{replaced_none, replaced_some, applied_over, applied_fits, decoded_short, beside_as}
 
 sub-applied-len : tie.Need-overflow-sub-applied-len
 sub-applied-len c = search rules
@@ -29,23 +29,23 @@ is-over-requires : tie.Need-is-over-requires
 is-over-requires c κs = search rules
 
 returns : tie.Need-returns
-unfolding decodedAt between
-returns c = record { out = applied-over _ _ _ (sym (c.before.before.before.before.before.applied-len.ensures _ _ c.before.before.before.before.before.before.before.before.before.before.requires.0) ∙ c.before.before.before.n.given.1) (decoded-short c.before.before.before.before.before.before.before.before.before.before.requires.2) c.before.before.before.before.before.before.before.before.before.before.requires.1 (sym c.before.is-over.ensures ∙ c.if1.true); beside = same-all }
+unfolding decoded_at between
+returns c = record { out = applied_over _ _ _ (sym (c.before.before.before.before.before.applied-len.ensures _ _ c.before.before.before.before.before.before.before.before.before.before.requires.0) ∙ c.before.before.before.n.given.1) (decoded_short c.before.before.before.before.before.before.before.before.before.before.requires.2) c.before.before.before.before.before.before.before.before.before.before.requires.1 (sym c.before.is-over.ensures ∙ c.if1.true); beside = same_all }
 
 put-value-requires : tie.Need-put-value-requires
-unfolding decodedAt between
-put-value-requires c κs = (c.before.before.before.before.before.before.before.before.before.before.before.before.requires.0, c.before.before.before.before.before.before.before.before.before.before.before.before.requires.1, c.before.before.before.before.before.before.before.before.before.before.before.before.requires.2, applied-fits _ (sym (c.before.before.before.before.before.before.before.applied-len.ensures _ _ c.before.before.before.before.before.before.before.before.before.before.before.before.requires.0) ∙ c.before.before.before.before.before.n.given.1) (sym c.before.before.before.is-over.ensures ∙ c.before.before.if1.false))
+unfolding decoded_at between
+put-value-requires c κs = (c.before.before.before.before.before.before.before.before.before.before.before.before.requires.0, c.before.before.before.before.before.before.before.before.before.before.before.before.requires.1, c.before.before.before.before.before.before.before.before.before.before.before.before.requires.2, applied_fits _ (sym (c.before.before.before.before.before.before.before.applied-len.ensures _ _ c.before.before.before.before.before.before.before.before.before.before.before.before.requires.0) ∙ c.before.before.before.before.before.n.given.1) (sym c.before.before.before.is-over.ensures ∙ c.before.before.if1.false))
 
 returns-2 : tie.Need-returns-2
-unfolding decodedAt between
-returns-2 c = record { out = (replaced-none _ _ _ (sym (c.before.before.applied-len.ensures _ _ c.before.before.before.before.before.before.before.requires.0) ∙ c.enum_told.given.1), same-all); beside = same-all }
+unfolding decoded_at between
+returns-2 c = record { out = (replaced_none _ _ _ (sym (c.before.before.applied-len.ensures _ _ c.before.before.before.before.before.before.before.requires.0) ∙ c.enum_told.given.1), same_all); beside = same_all }
 
 returns-3 : tie.Need-returns-3
-unfolding decodedAt between
-returns-3 c = beside-as (replaced-some _ _ _ (sym (c.before.before.before.before.before.before.before.before.applied-len.ensures _ _ c.before.before.before.before.before.before.before.before.before.before.before.before.before.requires.0) ∙ c.before.before.before.before.before.before.n.given.1)) same-all same-all c.put-value.ensures
+unfolding decoded_at between
+returns-3 c = beside_as (replaced_some _ _ _ (sym (c.before.before.before.before.before.before.before.before.applied-len.ensures _ _ c.before.before.before.before.before.before.before.before.before.before.before.before.before.requires.0) ∙ c.before.before.before.before.before.before.n.given.1)) same_all same_all c.put-value.ensures
 
-pub put-applied-spec : {M : Type 1} → statement M
-put-applied-spec =
+pub put_applied_spec : {M : Type 1} → statement M
+put_applied_spec =
     tie.close
     (tie.spec
     sub-applied-len

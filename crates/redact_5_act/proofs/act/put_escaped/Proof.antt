@@ -4,9 +4,9 @@ use Rattle.redact_5_act.proofs.act.put_escaped.Statement.{statement}
 use Rattle.redact_5_act.proofs.act.put_escaped.Tie as tie
 use mathlib.Core.Path.{sym, ◌∙◌}
 use Rattle.text.specs.Text.{between}
-use Rattle.text.proofs.Kept.{same-all, wrote-same, wrote-between}
+use Rattle.text.proofs.Kept.{same_all, wrote_same, wrote_between}
 use Rattle.text.proofs.Runs.{part_slice}
-use Rattle.redact_5_act.proofs.Acts.{escaped-over, escaped-same, escaped-room, escaped-anew}
+use Rattle.redact_5_act.proofs.Acts.{escaped_over, escaped_same, escaped_room, escaped_anew}
 
 add-end : tie.Need-overflow-add-end
 add-end c = search rules
@@ -27,10 +27,10 @@ is-over-requires : tie.Need-is-over-requires
 is-over-requires c κs = search rules
 
 returns : tie.Need-returns
-returns c = record { out = escaped-over _ _ (part_slice _ _ _) c.before.before.encoded-len.ensures.0 (sym c.before.is-over.ensures ∙ c.if1.true); beside = same-all }
+returns c = record { out = escaped_over _ _ (part_slice _ _ _) c.before.before.encoded-len.ensures.0 (sym c.before.is-over.ensures ∙ c.if1.true); beside = same_all }
 
 returns-2 : tie.Need-returns-2
-returns-2 c = record { out = escaped-same _ _ (part_slice _ _ _) c.before.before.before.encoded-len.ensures.0 (sym c.before.before.is-over.ensures ∙ c.before.if1.false) (omega arith) c.if2.true; beside = same-all }
+returns-2 c = record { out = escaped_same _ _ (part_slice _ _ _) c.before.before.before.encoded-len.ensures.0 (sym c.before.before.is-over.ensures ∙ c.before.if1.false) (omega arith) c.if2.true; beside = same_all }
 
 sub-copy-at : tie.Need-overflow-sub-copy-at
 sub-copy-at c = search rules
@@ -55,14 +55,14 @@ part-encode-end c = search rules
 
 encode-requires : tie.Need-encode-requires
 unfolding between
-encode-requires c κs = omega (arith, escaped-room _ _ (wrote-between c.before.before.before.before.copy_at.ensures) c.before.before.before.before.before.before.before.before.before.before.before.before.encoded-len.ensures.0 (sym c.before.before.before.before.before.before.before.before.before.before.before.is-over.ensures ∙ c.before.before.before.before.before.before.before.before.before.before.if1.false) c.before.before.before.before.before.before.before.before.before.before.before.before.before.before.before.before.requires.0)
+encode-requires c κs = omega (arith, escaped_room _ _ (wrote_between c.before.before.before.before.copy_at.ensures) c.before.before.before.before.before.before.before.before.before.before.before.before.encoded-len.ensures.0 (sym c.before.before.before.before.before.before.before.before.before.before.before.is-over.ensures ∙ c.before.before.before.before.before.before.before.before.before.before.if1.false) c.before.before.before.before.before.before.before.before.before.before.before.before.before.before.before.before.requires.0)
 
 returns-3 : tie.Need-returns-3
 unfolding between
-returns-3 c = record { out = escaped-anew _ _ (part_slice _ _ _) c.before.before.before.before.before.before.before.before.before.before.before.before.before.encoded-len.ensures.0 (sym c.before.before.before.before.before.before.before.before.before.before.before.before.is-over.ensures ∙ c.before.before.before.before.before.before.before.before.before.before.before.if1.false) (wrote-between c.before.before.before.before.before.copy_at.ensures) c.encode.ensures; beside = wrote-same c.before.before.before.before.before.copy_at.ensures }
+returns-3 c = record { out = escaped_anew _ _ (part_slice _ _ _) c.before.before.before.before.before.before.before.before.before.before.before.before.before.encoded-len.ensures.0 (sym c.before.before.before.before.before.before.before.before.before.before.before.before.is-over.ensures ∙ c.before.before.before.before.before.before.before.before.before.before.before.if1.false) (wrote_between c.before.before.before.before.before.copy_at.ensures) c.encode.ensures; beside = wrote_same c.before.before.before.before.before.copy_at.ensures }
 
-pub put-escaped-spec : {M : Type 1} → statement M
-put-escaped-spec =
+pub put_escaped_spec : {M : Type 1} → statement M
+put_escaped_spec =
     tie.close
     (tie.spec
     add-end

@@ -5,7 +5,7 @@ use Rattle.redact_5_act.proofs.act.put_null.Tie as tie
 use mathlib.Core.Path.{refl, sym, ◌∙◌}
 use borrow.Author.Tests.{ltb-false}
 use Rattle.text.specs.Text.{bytes}
-use Rattle.text.proofs.Kept.{wrote-stands}
+use Rattle.text.proofs.Kept.{wrote_stands}
 use Rattle.message_model.specs.Value.{NULL}
 use Rattle.redact_5_act.proofs.Acts.{overran, became}
 use Rattle.refusal.specs.Limits.{TEXT_MAX}
@@ -25,9 +25,9 @@ copy-at-requires c κs = omega (arith, c.before.before.before.before.requires (l
 
 returns-2 : tie.Need-returns-2
 unfolding NULL bytes
-returns-2 c = record { out = became NULL refl (sym c.before.before.before.before.is-over.ensures ∙ c.before.before.before.if1.false) (wrote-stands c.copy_at.ensures) }
+returns-2 c = record { out = became NULL refl (sym c.before.before.before.before.is-over.ensures ∙ c.before.before.before.if1.false) (wrote_stands c.copy_at.ensures) }
 
-pub put-null-spec : {M : Type 1} → statement M
-put-null-spec =
+pub put_null_spec : {M : Type 1} → statement M
+put_null_spec =
     tie.close
     (tie.spec is-over-requires returns slice-aggregate-copy-at copy-at-requires returns-2)

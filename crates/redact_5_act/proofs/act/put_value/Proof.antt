@@ -4,9 +4,9 @@ use Rattle.redact_5_act.proofs.act.put_value.Statement.{statement}
 use Rattle.redact_5_act.proofs.act.put_value.Tie as tie
 use mathlib.Core.Path.{sym, ◌∙◌}
 use Rattle.text.specs.Text.{between}
-use Rattle.text.proofs.Kept.{same-all, wrote-same}
-use Rattle.redact_5_act.specs.Inner.{decodedAt}
-use Rattle.redact_5_act.proofs.Acts.{room_fits, read_same, read-other, written-few, beside-as}
+use Rattle.text.proofs.Kept.{same_all, wrote_same}
+use Rattle.redact_5_act.specs.Inner.{decoded_at}
+use Rattle.redact_5_act.proofs.Acts.{room_fits, read_same, read_other, written_few, beside_as}
 
 sub_apply : tie.Need-overflow-sub-apply
 sub_apply c = search rules
@@ -18,7 +18,7 @@ part-apply-end : tie.Need-slice-bounds-apply-end
 part-apply-end c = search rules
 
 apply-requires : tie.Need-apply-requires
-unfolding decodedAt between
+unfolding decoded_at between
 apply-requires c κs = (c.before.before.before.before.before.requires.0, omega (arith, room_fits _ c.before.before.before.before.before.requires.1 c.before.before.before.before.before.requires.3.few))
 
 sub-same-bytes : tie.Need-overflow-sub-same-bytes
@@ -43,22 +43,22 @@ same-bytes-requires : tie.Need-same-bytes-requires
 same-bytes-requires c κs = search rules
 
 returns : tie.Need-returns
-unfolding decodedAt between
-returns c = record { out = (read_same _ _ _ c.before.before.before.before.before.before.apply.ensures (sym c.before.same_bytes.ensures ∙ c.if1.true), wrote-same c.before.before.before.before.before.before.apply.ensures); beside = same-all }
+unfolding decoded_at between
+returns c = record { out = (read_same _ _ _ c.before.before.before.before.before.before.apply.ensures (sym c.before.same_bytes.ensures ∙ c.if1.true), wrote_same c.before.before.before.before.before.before.apply.ensures); beside = same_all }
 
 sub-put-escaped : tie.Need-overflow-sub-put-escaped
 sub-put-escaped c = search rules
 
 put-escaped-requires : tie.Need-put-escaped-requires
-unfolding decodedAt between
-put-escaped-requires c κs = (c.before.before.before.before.before.before.before.before.before.before.before.before.before.before.requires.1, omega (arith, c.before.before.before.before.before.before.before.before.apply.ensures.end, c.before.before.before.before.before.before.before.before.apply.ensures.high), written-few _ c.before.before.before.before.before.before.before.before.apply.ensures c.before.before.before.before.before.before.before.before.before.before.before.before.before.before.requires.3)
+unfolding decoded_at between
+put-escaped-requires c κs = (c.before.before.before.before.before.before.before.before.before.before.before.before.before.before.requires.1, omega (arith, c.before.before.before.before.before.before.before.before.apply.ensures.end, c.before.before.before.before.before.before.before.before.apply.ensures.high), written_few _ c.before.before.before.before.before.before.before.before.apply.ensures c.before.before.before.before.before.before.before.before.before.before.before.before.before.before.requires.3)
 
 returns-2 : tie.Need-returns-2
-unfolding decodedAt between
-returns-2 c = beside-as (read-other _ _ _ c.before.before.before.before.before.before.before.before.before.apply.ensures (sym c.before.before.before.before.same_bytes.ensures ∙ c.before.before.before.if1.false)) (wrote-same c.before.before.before.before.before.before.before.before.before.apply.ensures) same-all c.put-escaped.ensures
+unfolding decoded_at between
+returns-2 c = beside_as (read_other _ _ _ c.before.before.before.before.before.before.before.before.before.apply.ensures (sym c.before.before.before.before.same_bytes.ensures ∙ c.before.before.before.if1.false)) (wrote_same c.before.before.before.before.before.before.before.before.before.apply.ensures) same_all c.put-escaped.ensures
 
-pub put-value-spec : {M : Type 1} → statement M
-put-value-spec =
+pub put_value_spec : {M : Type 1} → statement M
+put_value_spec =
     tie.close
     (tie.spec
     sub_apply

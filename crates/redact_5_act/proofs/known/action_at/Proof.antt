@@ -1,7 +1,7 @@
 use borrow.Author.Rules.{rules}
 use Rattle.redact_5_act.proofs.known.action_at.Statement.{statement}
 use Rattle.redact_5_act.proofs.known.action_at.Tie as tie
-use Rattle.redact_5_act.specs.Known.{actionAt}
+use Rattle.redact_5_act.specs.Known.{action_at}
 
 mul-row : tie.Need-overflow-mul-row
 mul-row c = search rules
@@ -37,11 +37,11 @@ action-of-requires : tie.Need-action-of-requires
 action-of-requires c κs = search rules
 
 returns : tie.Need-returns
-unfolding actionAt
+unfolding action_at
 returns c = c.action-of.ensures
 
-pub action-at-spec : {M : Type 1} → statement M
-action-at-spec =
+pub action_at_spec : {M : Type 1} → statement M
+action_at_spec =
     tie.close
     (tie.spec
     mul-row

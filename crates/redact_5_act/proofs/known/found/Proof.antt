@@ -4,9 +4,9 @@ use Rattle.redact_5_act.proofs.known.found.Tie as tie
 use native.Mathlib.Omega.{arith}
 use Prim.Native.Nat.{◌≤◌}
 use Rattle.text.specs.Text.{between}
-use Rattle.er7_value.proofs.Starts.{none-marked}
+use Rattle.er7_value.proofs.Starts.{none_marked}
 use Rattle.redact_5_act.specs.Inner.{RowFound}
-use Rattle.redact_5_act.proofs.Knowing.{LeastOver, slots-to, row-none, picked_all, picked_more, least-none, least-row}
+use Rattle.redact_5_act.proofs.Knowing.{LeastOver, slots_to, row_none, picked_all, picked_more, least_none, least_row}
 
 abbrev invariant-loop : tie.invariant-loop
 invariant-loop bytes i e known n starts best₀ least₀ k₀ best least k = RowFound (between bytes i e) bytes known k n best × LeastOver known n best least × (k ≤ n)
@@ -24,14 +24,14 @@ part-mark-starts-end : tie.Need-slice-bounds-mark-starts-end invariant-loop decr
 part-mark-starts-end c = search rules
 
 mark-starts-requires : tie.Need-mark-starts-requires invariant-loop decreases-loop
-mark-starts-requires c κs = none-marked 256
+mark-starts-requires c κs = none_marked 256
 
 loop-holds : tie.Need-loop-init invariant-loop decreases-loop
-loop-holds c = (row-none, least-none, omega arith)
+loop-holds c = (row_none, least_none, omega arith)
 
 last-found-requires : tie.Need-last-found-requires invariant-loop decreases-loop
 unfolding between
-last-found-requires c κs = (slots-to c.before.before.before.before.before.before.requires.0 c.before.loop.invariant.2, c.before.before.before.before.before.before.requires.1, c.before.before.before.before.before.before.requires.2, c.before.before.mark-starts.ensures)
+last-found-requires c κs = (slots_to c.before.before.before.before.before.before.requires.0 c.before.loop.invariant.2, c.before.before.before.before.before.before.requires.1, c.before.before.before.before.before.before.requires.2, c.before.before.mark-starts.ensures)
 
 returns : tie.Need-returns invariant-loop decreases-loop
 returns c = picked_all (search rules) c.before.before.before.before.before.before.before.before.requires.0 c.before.before.before.loop.invariant.1 c.before.before.before.loop.invariant.2 c.if1.true c.before.last_found.ensures c.before.before.before.loop.invariant.0
@@ -55,10 +55,10 @@ loop-less : tie.Need-loop-smaller invariant-loop decreases-loop
 loop-less c = omega (arith, c.before.before.last_found.ensures.high)
 
 loop-again : tie.Need-loop-preserved invariant-loop decreases-loop
-loop-again c = (picked_more (search rules) c.before.before.before.before.before.before.before.before.before.requires.0 c.before.before.before.before.loop.invariant.1 c.before.before.before.before.loop.invariant.2 c.before.if1.false c.before.before.last_found.ensures c.before.before.before.before.loop.invariant.0, least-row (omega (arith, c.before.before.last_found.ensures.high, c.before.before.before.before.loop.invariant.2)), omega (arith, c.before.before.last_found.ensures.high, c.before.before.before.before.loop.invariant.2))
+loop-again c = (picked_more (search rules) c.before.before.before.before.before.before.before.before.before.requires.0 c.before.before.before.before.loop.invariant.1 c.before.before.before.before.loop.invariant.2 c.before.if1.false c.before.before.last_found.ensures c.before.before.before.before.loop.invariant.0, least_row (omega (arith, c.before.before.last_found.ensures.high, c.before.before.before.before.loop.invariant.2)), omega (arith, c.before.before.last_found.ensures.high, c.before.before.before.before.loop.invariant.2))
 
-pub found-spec : {M : Type 1} → statement M
-found-spec =
+pub found_spec : {M : Type 1} → statement M
+found_spec =
     tie.close
     (tie.spec
     invariant-loop

@@ -3,14 +3,14 @@ use Rattle.redact_5_act.proofs.known.has_value.Statement.{statement}
 use Rattle.redact_5_act.proofs.known.has_value.Tie as tie
 use mathlib.Core.Path.{sym, ◌∙◌}
 use borrow.Author.Tests.{not-true}
-use Rattle.redact_5_act.proofs.Knowing.{not-marked, has-unmarked, has-shorter, has-long}
+use Rattle.redact_5_act.proofs.Knowing.{not_marked, has_unmarked, has_shorter, has_long}
 use native.Mathlib.Omega.{arith}
 
 may-have-requires : tie.Need-may-have-requires
 may-have-requires c κs = search rules
 
 returns : tie.Need-returns
-returns c = sym (has-unmarked _ _ _ _ _ (sym (not-marked _ c.before.before.requires.0 c.before.before.requires.3 (sym c.before.may-have.ensures ∙ not-true _ c.if1.true))))
+returns c = sym (has_unmarked _ _ _ _ _ (sym (not_marked _ c.before.before.requires.0 c.before.before.requires.3 (sym c.before.may-have.ensures ∙ not-true _ c.if1.true))))
 
 mul-if2 : tie.Need-overflow-mul-if2
 mul-if2 c = search rules
@@ -25,16 +25,16 @@ element-copy-out-if2 : tie.Need-element-copy-out-if2
 element-copy-out-if2 c = search rules
 
 returns-2 : tie.Need-returns-2
-returns-2 c = sym (has-shorter _ _ _ _ _ c.if2.true)
+returns-2 c = sym (has_shorter _ _ _ _ _ c.if2.true)
 
 has-word-requires : tie.Need-has-word-requires
 has-word-requires c κs = search rules
 
 returns-3 : tie.Need-returns-3
-returns-3 c = c.Has-word.ensures ∙ has-long _ _ _ _ _ (omega arith)
+returns-3 c = c.Has-word.ensures ∙ has_long _ _ _ _ _ (omega arith)
 
-pub has-value-spec : {M : Type 1} → statement M
-has-value-spec =
+pub has_value_spec : {M : Type 1} → statement M
+has_value_spec =
     tie.close
     (tie.spec
     may-have-requires

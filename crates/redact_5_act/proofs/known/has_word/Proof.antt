@@ -54,8 +54,8 @@ returns : tie.Need-returns
 unfolding value_at between
 returns c = word_of_part _ _ _ _ c.is-whole-word.ensures
 
-pub has-word-spec : {M : Type 1} → statement M
-has-word-spec =
+pub has_word_spec : {M : Type 1} → statement M
+has_word_spec =
     tie.close
     (tie.spec
     mul-row

@@ -5,7 +5,7 @@ use mathlib.Core.Path.{ap, ◌∙◌}
 use Rattle.text.specs.Text.{same, between}
 use Rattle.text.proofs.Runs.{part_slice}
 use Rattle.redact_5_act.specs.Known.{value_at}
-use Rattle.redact_5_act.proofs.Knowing.{other-hash}
+use Rattle.redact_5_act.proofs.Knowing.{other_hash}
 
 mul-row : tie.Need-overflow-mul-row
 mul-row c = search rules
@@ -17,7 +17,7 @@ element-copy-out-if1 : tie.Need-element-copy-out-if1
 element-copy-out-if1 c = search rules
 
 returns : tie.Need-returns
-returns c = other-hash _ _ c.before.before.requires.3 c.before.before.requires.0.hash c.if1.true
+returns c = other_hash _ _ c.before.before.requires.3 c.before.before.requires.0.hash c.if1.true
 
 add_start : tie.Need-overflow-add-start
 add_start c = search rules
@@ -65,8 +65,8 @@ returns-2 : tie.Need-returns-2
 unfolding value_at between
 returns-2 c = c.same_bytes.ensures ∙ ap (same _) (part_slice _ _ _)
 
-pub is-value-spec : {M : Type 1} → statement M
-is-value-spec =
+pub is_value_spec : {M : Type 1} → statement M
+is_value_spec =
     tie.close
     (tie.spec
     mul-row

@@ -4,7 +4,7 @@ use Rattle.redact_5_act.proofs.known.last_found.Tie as tie
 use native.Mathlib.Omega.{arith}
 use mathlib.Core.Path.{sym, ◌∙◌}
 use Rattle.text.specs.Text.{between}
-use Rattle.redact_5_act.proofs.Knowing.{NoneFrom, none-start, none_more, none_end, last_row}
+use Rattle.redact_5_act.proofs.Knowing.{NoneFrom, none_start, none_more, none_end, last_row}
 
 abbrev invariant-loop : tie.invariant-loop
 invariant-loop bytes i e starts known least k j₀ j = NoneFrom (between bytes i e) bytes known least j k
@@ -13,7 +13,7 @@ abbrev decreases-loop : tie.decreases-loop
 decreases-loop bytes i e starts known least k j₀ j = j
 
 loop-holds : tie.Need-loop-init invariant-loop decreases-loop
-loop-holds c = none-start
+loop-holds c = none_start
 
 sub-j : tie.Need-overflow-sub-j invariant-loop decreases-loop
 sub-j c = search rules
@@ -33,8 +33,8 @@ loop-again c = none_more (omega arith) c.before.before.before.loop.invariant (sy
 returns-2 : tie.Need-returns-2 invariant-loop decreases-loop
 returns-2 c = none_end (omega arith) c.before.loop.invariant
 
-pub last-found-spec : {M : Type 1} → statement M
-last-found-spec =
+pub last_found_spec : {M : Type 1} → statement M
+last_found_spec =
     tie.close
     (tie.spec
     invariant-loop

@@ -4,7 +4,7 @@ use Rattle.redact_5_act.proofs.known.may_have.Tie as tie
 use native.Mathlib.Omega.{arith}
 use Prim.Native.Nat.{◌+◌, ◌*◌}
 use lib.ListN.{get_or}
-use Rattle.redact_5_act.proofs.Knowing.{first-mark}
+use Rattle.redact_5_act.proofs.Knowing.{first_mark}
 
 mul-start : tie.Need-overflow-mul-start
 mul-start c = search rules
@@ -28,10 +28,10 @@ element-copy-out-result : tie.Need-element-copy-out-result
 element-copy-out-result c = omega (arith, c.shared-slice-known.given (get_or c.before.before.before.args.known.now (c.before.before.before.args.k * 8 + 1) 0))
 
 returns : tie.Need-returns
-returns c = first-mark _ c.before.before.before.before.requires
+returns c = first_mark _ c.before.before.before.before.requires
 
-pub may-have-spec : {M : Type 1} → statement M
-may-have-spec =
+pub may_have_spec : {M : Type 1} → statement M
+may_have_spec =
     tie.close
     (tie.spec
     mul-start

@@ -68,8 +68,8 @@ same_length c = search rules
 returns : tie.Need-returns
 returns c = row_put _ _ _ _ _ _ _ _ (omega arith) c.code_of_lem.ensures
 
-pub put-known-spec : {M : Type 1} → statement M
-put-known-spec =
+pub put_known_spec : {M : Type 1} → statement M
+put_known_spec =
     tie.close
     (tie.spec
     mul-row

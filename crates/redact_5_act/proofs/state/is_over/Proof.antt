@@ -24,5 +24,5 @@ saturating-sub-requires c κs = search rules
 returns-2 : tie.Need-returns-2
 returns-2 c = rw c.saturating-sub.ensures (sum_over TEXT_MAX (c.before.before.args.size - c.before.before.args.went) c.before.before.args.came (omega arith))
 
-pub is-over-spec : {M : Type 1} → statement M
-is-over-spec = tie.close (tie.spec returns saturating-sub-requires returns-2)
+pub is_over_spec : {M : Type 1} → statement M
+is_over_spec = tie.close (tie.spec returns saturating-sub-requires returns-2)

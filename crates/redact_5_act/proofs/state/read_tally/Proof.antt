@@ -26,8 +26,8 @@ returns : tie.Need-returns
 unfolding counted
 returns c = refl
 
-pub read-tally-spec : {M : Type 1} → statement M
-read-tally-spec =
+pub read_tally_spec : {M : Type 1} → statement M
+read_tally_spec =
     tie.close
     (tie.spec
     element-copy-out-t4

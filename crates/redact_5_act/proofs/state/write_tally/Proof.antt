@@ -7,5 +7,5 @@ returns : tie.Need-returns
 unfolding counted
 returns c = refl
 
-pub write-tally-spec : {M : Type 1} → statement M
-write-tally-spec = tie.close (tie.spec returns)
+pub write_tally_spec : {M : Type 1} → statement M
+write_tally_spec = tie.close (tie.spec returns)

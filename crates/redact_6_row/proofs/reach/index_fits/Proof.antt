@@ -7,5 +7,5 @@ returns : tie.Need-returns
 unfolding fits
 returns c = refl
 
-pub index-fits-spec : {M : Type 1} → statement M
-index-fits-spec = tie.close (tie.spec returns)
+pub index_fits_spec : {M : Type 1} → statement M
+index_fits_spec = tie.close (tie.spec returns)

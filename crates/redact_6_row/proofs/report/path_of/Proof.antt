@@ -1,11 +1,11 @@
 use Rattle.redact_6_row.proofs.report.path_of.Statement.{statement}
 use Rattle.redact_6_row.proofs.report.path_of.Tie as tie
 use mathlib.Core.Path.{refl}
-use Rattle.redact_6_row.specs.Inner.{leafPath}
+use Rattle.redact_6_row.specs.Inner.{leaf_path}
 
 returns : tie.Need-returns
-unfolding leafPath
+unfolding leaf_path
 returns c = refl
 
-pub path-of-spec : {M : Type 1} → statement M
-path-of-spec = tie.close (tie.spec returns)
+pub path_of_spec : {M : Type 1} → statement M
+path_of_spec = tie.close (tie.spec returns)

@@ -11,10 +11,10 @@ use Prim.Native.Nat.{◌+◌, ◌≤◌}
 use lib.ListN.{length}
 use mathlib.Core.Path.{◌≡◌, refl}
 use Rattle.er7_redact.specs.declared.action.Action.TheVariants as Held
-use Rattle.er7_redact.specs.Action.{asAction}
-use Rattle.run_model.specs.Redact.{row, printRow}
-use Rattle.er7_table.specs.Table.{asLabel}
-use Rattle.redact_6_row.proofs.Rows.{leaf-held, row-length, row-most, CountBits}
+use Rattle.er7_redact.specs.Action.{as_action}
+use Rattle.run_model.specs.Redact.{row, print_row}
+use Rattle.er7_table.specs.Table.{as_label}
+use Rattle.redact_6_row.proofs.Rows.{leaf_held, row_length, row_most, CountBits}
 use Rattle.er7_redact.specs.declared.action.Action.{Action as HeldAction}
 
 -- what is known at the start
@@ -42,8 +42,8 @@ count_bits c = go c.args.a refl
     go Held.Pseudonym e = tt
     go (Held.Shift z) e = let h = rw e at c.well-formed.1.1.0 in omega (arith, h)
 
-most : (c : Start) → length (printRow (row (asLabel c.args.g) c.args.p (asAction c.args.text.now c.args.a))) ≤ length c.args.text.now + 138
-most c = row-most c.args.g c.args.p c.args.text.now c.args.a (record {
+most : (c : Start) → length (print_row (row (as_label c.args.g) c.args.p (as_action c.args.text.now c.args.a))) ≤ length c.args.text.now + 138
+most c = row_most c.args.g c.args.p c.args.text.now c.args.a (record {
   occurrence = omega (arith, c.well-formed.0);
   field = omega (arith, c.well-formed.1.0);
   repetition = omega (arith, c.well-formed.1.0);
@@ -58,7 +58,7 @@ slice-aggregate-printed-len : tie.Need-slice-aggregate-printed-len
 slice-aggregate-printed-len c = search rules
 
 printed-len-requires : tie.Need-printed-len-requires
-printed-len-requires c κs = rw c.before.path-of.ensures (leaf-held _ _)
+printed-len-requires c κs = rw c.before.path-of.ensures (leaf_held _ _)
 
 printed-len-requires-2 : tie.Need-printed-len-requires-2
 printed-len-requires-2 c κs = search rules
@@ -66,21 +66,21 @@ printed-len-requires-2 c κs = search rules
 add-result : tie.Need-overflow-add-result
 add-result c =
     let l = rw c.before.before.before.path-of.ensures at c.before.printed-len.ensures in
-    omega (arith, l, most c.before.before.before.before.before, row-length c.before.before.before.before.before.args.g c.before.before.before.before.before.args.p (asAction c.before.before.before.before.before.args.text.now c.before.before.before.before.before.args.a))
+    omega (arith, l, most c.before.before.before.before.before, row_length c.before.before.before.before.before.args.g c.before.before.before.before.before.args.p (as_action c.before.before.before.before.before.args.text.now c.before.before.before.before.before.args.a))
 
 add-result-2 : tie.Need-overflow-add-result-2
 add-result-2 c =
     let l = rw c.before.before.before.path-of.ensures at c.before.printed-len.ensures in
-    omega (arith, l, most c.before.before.before.before.before, row-length c.before.before.before.before.before.args.g c.before.before.before.before.before.args.p (asAction c.before.before.before.before.before.args.text.now c.before.before.before.before.before.args.a))
+    omega (arith, l, most c.before.before.before.before.before, row_length c.before.before.before.before.before.args.g c.before.before.before.before.before.args.p (as_action c.before.before.before.before.before.args.text.now c.before.before.before.before.before.args.a))
 
 returns : tie.Need-returns
 returns c =
     let l = rw c.before.before.before.path-of.ensures at c.before.printed-len.ensures in
-    let n = row-length c.before.before.before.before.before.args.g c.before.before.before.before.before.args.p (asAction c.before.before.before.before.before.args.text.now c.before.before.before.before.before.args.a) in
+    let n = row_length c.before.before.before.before.before.args.g c.before.before.before.before.before.args.p (as_action c.before.before.before.before.before.args.text.now c.before.before.before.before.before.args.a) in
     (omega (arith, l, n), omega (arith, l, n, most c.before.before.before.before.before))
 
-pub row-len-spec : {M : Type 1} → statement M
-row-len-spec =
+pub row_len_spec : {M : Type 1} → statement M
+row_len_spec =
     tie.close
     (tie.spec
     path-of-requires

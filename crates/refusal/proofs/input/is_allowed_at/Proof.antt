@@ -1,7 +1,7 @@
 use borrow.Author.Rules.{rules}
 use Rattle.refusal.proofs.input.is_allowed_at.Statement.{statement}
 use Rattle.refusal.proofs.input.is_allowed_at.Tie as tie
-use Rattle.refusal.specs.Refusal.{isAllowed}
+use Rattle.refusal.specs.Refusal.{is_allowed}
 
 shared-slice-read-b : tie.Need-shared-slice-read-b
 shared-slice-read-b c = search rules
@@ -31,19 +31,19 @@ is-plain-requires-3 : tie.Need-is-plain-requires-3
 is-plain-requires-3 c κs = search rules
 
 returns : tie.Need-returns
-unfolding isAllowed
+unfolding is_allowed
 returns c = rw (c.before.enum_told.given.1, c.is_plain.ensures)
 
 returns-2 : tie.Need-returns-2
-unfolding isAllowed
+unfolding is_allowed
 returns-2 c = rw (c.before.before.enum-told2.given.1, c.before.is-plain2.ensures, c.is-lf-at.ensures)
 
 returns-3 : tie.Need-returns-3
-unfolding isAllowed
+unfolding is_allowed
 returns-3 c = rw (c.before.enum-told3.given.1, c.is-plain3.ensures)
 
-pub is-allowed-at-spec : {M : Type 1} → statement M
-is-allowed-at-spec =
+pub is_allowed_at_spec : {M : Type 1} → statement M
+is_allowed_at_spec =
     tie.close
     (tie.spec
     shared-slice-read-b

@@ -46,8 +46,8 @@ loop-again c = search rules
 returns-2 : tie.Need-returns-2 invariant-loop decreases-loop
 returns-2 c = search rules
 
-pub read-key-spec : {M : Type 1} → statement M
-read-key-spec =
+pub read_key_spec : {M : Type 1} → statement M
+read_key_spec =
     tie.close
     (tie.spec
     invariant-loop

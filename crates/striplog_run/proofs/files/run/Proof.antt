@@ -2,7 +2,7 @@ use native.Mathlib.Omega.{arith}
 use borrow.Author.Rules.{rules}
 use Rattle.striplog_run.proofs.files.run.Statement.{statement}
 use Rattle.striplog_run.proofs.files.run.Tie as tie
-use Rattle.text.proofs.Writes.{wrote-length}
+use Rattle.text.proofs.Writes.{wrote_length}
 
 slice-aggregate-load : tie.Need-slice-aggregate-load
 slice-aggregate-load c = search rules
@@ -59,7 +59,7 @@ part-write-all-start : tie.Need-slice-bounds-write-all-start
 part-write-all-start c = search rules
 
 part-write-all-end : tie.Need-slice-bounds-write-all-end
-part-write-all-end c = omega (arith, c.before.before.strip.ensures.high, wrote-length c.before.before.strip.ensures)
+part-write-all-end c = omega (arith, c.before.before.strip.ensures.high, wrote_length c.before.before.strip.ensures)
 
 write-all-requires : tie.Need-write-all-requires
 write-all-requires c κs = search rules

@@ -2,8 +2,8 @@ use native.Mathlib.Omega.{arith}
 use borrow.Author.Rules.{rules}
 use Rattle.striplog_run.proofs.strip.put_redacted.Statement.{statement}
 use Rattle.striplog_run.proofs.strip.put_redacted.Tie as tie
-use Rattle.striplog_run.proofs.Laws.{text-end, report-end, returned-prints}
-use Rattle.striplog_run.proofs.Laws.{text-end, report-end, returned-room, returned-prints}
+use Rattle.striplog_run.proofs.Laws.{text_end, report_end, returned_prints}
+use Rattle.striplog_run.proofs.Laws.{text_end, report_end, returned_room, returned_prints}
 
 slice-aggregate-redact : tie.Need-slice-aggregate-redact
 slice-aggregate-redact c = search rules
@@ -24,7 +24,7 @@ part-put-outcome-start : tie.Need-slice-bounds-put-outcome-start
 part-put-outcome-start c = search rules
 
 part-put-outcome-end : tie.Need-slice-bounds-put-outcome-end
-part-put-outcome-end c = omega (arith, text-end _ _ _ _ _ _ _ c.before.before.before.before.redact.ensures (omega arith))
+part-put-outcome-end c = omega (arith, text_end _ _ _ _ _ _ _ c.before.before.before.before.redact.ensures (omega arith))
 
 sub-put-outcome-2 : tie.Need-overflow-sub-put-outcome-2
 sub-put-outcome-2 c = search rules
@@ -33,19 +33,19 @@ part-put-outcome-start-2 : tie.Need-slice-bounds-put-outcome-start-2
 part-put-outcome-start-2 c = search rules
 
 part-put-outcome-end-2 : tie.Need-slice-bounds-put-outcome-end-2
-part-put-outcome-end-2 c = omega (arith, report-end _ _ _ _ _ _ _ c.before.before.before.before.before.before.redact.ensures (omega arith))
+part-put-outcome-end-2 c = omega (arith, report_end _ _ _ _ _ _ _ c.before.before.before.before.before.before.redact.ensures (omega arith))
 
 put-outcome-requires : tie.Need-put-outcome-requires
-put-outcome-requires c κs = returned-room c.before.before.before.before.before.before.before.before.redact.result _ _ _ (omega arith) (omega arith) (omega arith) (omega arith) (omega arith) (omega arith)
+put-outcome-requires c κs = returned_room c.before.before.before.before.before.before.before.before.redact.result _ _ _ (omega arith) (omega arith) (omega arith) (omega arith) (omega arith) (omega arith)
 
 same_length : tie.Need-same-length
 same_length c = search rules
 
 returns : tie.Need-returns
-returns c = rw (returned-prints _ _ _ _ _ _ _ c.before.before.before.before.before.before.before.before.before.before.before.redact.ensures) at c.before.before.put-outcome.ensures
+returns c = rw (returned_prints _ _ _ _ _ _ _ c.before.before.before.before.before.before.before.before.before.before.before.redact.ensures) at c.before.before.put-outcome.ensures
 
-pub put-redacted-spec : {M : Type 1} → statement M
-put-redacted-spec =
+pub put_redacted_spec : {M : Type 1} → statement M
+put_redacted_spec =
     tie.close
     (tie.spec
     slice-aggregate-redact

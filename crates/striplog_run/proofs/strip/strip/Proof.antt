@@ -1,7 +1,7 @@
 use borrow.Author.Rules.{rules}
 use Rattle.striplog_run.proofs.strip.strip.Statement.{statement}
 use Rattle.striplog_run.proofs.strip.strip.Tie as tie
-use Rattle.striplog_run.proofs.Laws.{wrote-missing, wrote_nothing, wrote-bad, wrote-digits, wrote-ended}
+use Rattle.striplog_run.proofs.Laws.{wrote_missing, wrote_nothing, wrote_bad, wrote_digits, wrote_ended}
 
 put-bad-input-requires : tie.Need-put-bad-input-requires
 put-bad-input-requires c κs = search rules
@@ -10,7 +10,7 @@ same_length : tie.Need-same-length
 same_length c = search rules
 
 returns : tie.Need-returns
-returns c = wrote-missing _ _ _ _ _ c.before.before.before.before.if1.true c.before.before.put-bad-input.ensures
+returns c = wrote_missing _ _ _ _ _ c.before.before.before.before.if1.true c.before.before.put-bad-input.ensures
 
 enum_told : tie.Need-enum-told
 enum_told c = search rules
@@ -46,22 +46,22 @@ same-length-3 : tie.Need-same-length-3
 same-length-3 c = search rules
 
 returns-3 : tie.Need-returns-3
-returns-3 c = wrote-digits _ _ _ _ _ c.before.before.before.before.before.before.before.if1.false c.before.before.put-redacted.ensures c.before.before.before.before.before.key.given.1
+returns-3 c = wrote_digits _ _ _ _ _ c.before.before.before.before.before.before.before.if1.false c.before.before.put-redacted.ensures c.before.before.before.before.before.key.given.1
 
 same-length-4 : tie.Need-same-length-4
 same-length-4 c = search rules
 
 returns-4 : tie.Need-returns-4
-returns-4 c = wrote-ended _ _ _ _ _ c.before.before.before.before.before.before.before.if1.false c.before.before.put-redacted2.ensures c.before.before.before.before.before.key2.given.1
+returns-4 c = wrote_ended _ _ _ _ _ c.before.before.before.before.before.before.before.if1.false c.before.before.put-redacted2.ensures c.before.before.before.before.before.key2.given.1
 
 same-length-5 : tie.Need-same-length-5
 same-length-5 c = search rules
 
 returns-5 : tie.Need-returns-5
-returns-5 c = wrote-bad _ _ _ _ _ c.before.before.before.before.enum-told2.given.1 c.before.before.put-bad-input3.ensures
+returns-5 c = wrote_bad _ _ _ _ _ c.before.before.before.before.enum-told2.given.1 c.before.before.put-bad-input3.ensures
 
-pub strip-spec : {M : Type 1} → statement M
-strip-spec =
+pub strip_spec : {M : Type 1} → statement M
+strip_spec =
     tie.close
     (tie.spec
     put-bad-input-requires

@@ -4,7 +4,7 @@ use Rattle.striplog_text.proofs.key.feed.Statement.{statement}
 use Rattle.striplog_text.proofs.key.feed.Tie as tie
 use Prim.Native.Nat.{◌-◌}
 use lib.ListN.{length}
-use Rattle.striplog_text.proofs.Keys.{Feeding, feeding-start, feeding-more, feeding-end}
+use Rattle.striplog_text.proofs.Keys.{Feeding, feeding_start, feeding_more, feeding_end}
 
 abbrev invariant-loop : tie.invariant-loop
 invariant-loop chunk k₀ j₀ k j = Feeding k₀ chunk j k
@@ -13,7 +13,7 @@ abbrev decreases-loop : tie.decreases-loop
 decreases-loop chunk k₀ j₀ k j = length chunk - j
 
 loop-holds : tie.Need-loop-init invariant-loop decreases-loop
-loop-holds c = feeding-start _ _
+loop-holds c = feeding_start _ _
 
 shared-slice-read-feed-byte : tie.Need-shared-slice-read-feed-byte invariant-loop decreases-loop
 shared-slice-read-feed-byte c = search rules
@@ -28,13 +28,13 @@ loop-less : tie.Need-loop-smaller invariant-loop decreases-loop
 loop-less c = search rules
 
 loop-again : tie.Need-loop-preserved invariant-loop decreases-loop
-loop-again c = feeding-more c.before.before.before.loop.invariant (omega arith) c.feed-byte.ensures
+loop-again c = feeding_more c.before.before.before.loop.invariant (omega arith) c.feed-byte.ensures
 
 returns : tie.Need-returns invariant-loop decreases-loop
-returns c = feeding-end c.before.loop.invariant (omega arith)
+returns c = feeding_end c.before.loop.invariant (omega arith)
 
-pub feed-spec : {M : Type 1} → statement M
-feed-spec =
+pub feed_spec : {M : Type 1} → statement M
+feed_spec =
     tie.close
     (tie.spec
     invariant-loop

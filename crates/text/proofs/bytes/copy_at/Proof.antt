@@ -43,8 +43,8 @@ same_length c = search rules
 returns : tie.Need-returns invariant-loop decreases-loop
 returns c = copied_all _ _ _ c.before.loop.invariant.1 (omega arith) (omega arith)
 
-pub copy-at-spec : {M : Type 1} → statement M
-copy-at-spec =
+pub copy_at_spec : {M : Type 1} → statement M
+copy_at_spec =
     tie.close
     (tie.spec
     invariant-loop

@@ -5,7 +5,7 @@ use mathlib.Core.Path.{◌≡◌, refl}
 use Prim.Native.Nat.{◌-◌, ◌≤◌, ◌+◌}
 use native.Mathlib.Omega.{arith}
 use lib.ListN.{length, length-set}
-use Rattle.text.proofs.Writes.{filled, filled_none, filled_more, filled-wrote}
+use Rattle.text.proofs.Writes.{filled, filled_none, filled_more, filled_wrote}
 
 abbrev invariant-loop : tie.invariant-loop
 invariant-loop buf₀ at n b end i₀ buf i = (at ≤ i) × (i ≤ at + n) × (buf ≡ filled buf₀ at b i) × (length buf ≡ length buf₀)
@@ -35,10 +35,10 @@ same_length : tie.Need-same-length invariant-loop decreases-loop
 same_length c = search rules
 
 returns : tie.Need-returns invariant-loop decreases-loop
-returns c = filled-wrote _ _ _ c.before.before.args.n c.before.loop.invariant.2 (omega arith) (omega arith)
+returns c = filled_wrote _ _ _ c.before.before.args.n c.before.loop.invariant.2 (omega arith) (omega arith)
 
-pub fill-at-spec : {M : Type 1} → statement M
-fill-at-spec =
+pub fill_at_spec : {M : Type 1} → statement M
+fill_at_spec =
     tie.close
     (tie.spec
     invariant-loop

@@ -1,7 +1,7 @@
 use borrow.Author.Rules.{rules}
 use Rattle.text.proofs.bytes.is_in.Statement.{statement}
 use Rattle.text.proofs.bytes.is_in.Tie as tie
-use Rattle.text.specs.Text.{isIn, isDigit, isUpper, isLower, isAlphanumeric, isBlank, notBlank}
+use Rattle.text.specs.Text.{is_in, is_digit, is_upper, is_lower, is_alphanumeric, is_blank, not_blank}
 
 enum_told : tie.Need-enum-told
 enum_told c = search rules
@@ -19,27 +19,27 @@ enum-known-class : tie.Need-enum-known-class
 enum-known-class c = search rules
 
 returns : tie.Need-returns
-unfolding isIn isDigit isUpper isLower isAlphanumeric isBlank notBlank
+unfolding is_in is_digit is_upper is_lower is_alphanumeric is_blank not_blank
 returns c = cc
 
 returns-2 : tie.Need-returns-2
-unfolding isIn isDigit isUpper isLower isAlphanumeric isBlank notBlank
+unfolding is_in is_digit is_upper is_lower is_alphanumeric is_blank not_blank
 returns-2 c = cc
 
 returns-3 : tie.Need-returns-3
-unfolding isIn isDigit isUpper isLower isAlphanumeric isBlank notBlank
+unfolding is_in is_digit is_upper is_lower is_alphanumeric is_blank not_blank
 returns-3 c = cc
 
 returns-4 : tie.Need-returns-4
-unfolding isIn isDigit isUpper isLower isAlphanumeric isBlank notBlank
+unfolding is_in is_digit is_upper is_lower is_alphanumeric is_blank not_blank
 returns-4 c = cc
 
 returns-5 : tie.Need-returns-5
-unfolding isIn isDigit isUpper isLower isAlphanumeric isBlank notBlank
+unfolding is_in is_digit is_upper is_lower is_alphanumeric is_blank not_blank
 returns-5 c = cc
 
-pub is-in-spec : {M : Type 1} → statement M
-is-in-spec =
+pub is_in_spec : {M : Type 1} → statement M
+is_in_spec =
     tie.close
     (tie.spec
     enum_told

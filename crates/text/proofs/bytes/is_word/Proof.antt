@@ -6,7 +6,7 @@ use Prim.Native.Nat.{◌-◌}
 use native.Mathlib.Omega.{arith}
 use lib.ListN.{length}
 use Rattle.text.specs.Text.{lower}
-use Rattle.text.proofs.Words.{Comparing, comparing-start, lower-length, word-longer, word_more, word-differs, word-all}
+use Rattle.text.proofs.Words.{Comparing, comparing_start, lower_length, word_longer, word_more, word_differs, word_all}
 
 abbrev invariant-loop : tie.invariant-loop
 invariant-loop s w j₀ j = Comparing (lower s) w j
@@ -15,10 +15,10 @@ abbrev decreases-loop : tie.decreases-loop
 decreases-loop s w j₀ j = length s - j
 
 returns : tie.Need-returns invariant-loop decreases-loop
-returns c = word-longer _ _ c.if1.true
+returns c = word_longer _ _ c.if1.true
 
 loop-holds : tie.Need-loop-init invariant-loop decreases-loop
-loop-holds c = comparing-start _ _ (lower-length _ ∙ c.if1.false)
+loop-holds c = comparing_start _ _ (lower_length _ ∙ c.if1.false)
 
 shared-slice-read-lower-byte : tie.Need-shared-slice-read-lower-byte invariant-loop decreases-loop
 shared-slice-read-lower-byte c = search rules
@@ -30,7 +30,7 @@ shared-slice-read-if2 : tie.Need-shared-slice-read-if2 invariant-loop decreases-
 shared-slice-read-if2 c = search rules
 
 returns-2 : tie.Need-returns-2 invariant-loop decreases-loop
-returns-2 c = word-differs _ c.before.before.before.before.before.loop.invariant (omega arith) c.before.before.lower-byte.ensures c.if2.true
+returns-2 c = word_differs _ c.before.before.before.before.before.loop.invariant (omega arith) c.before.before.lower-byte.ensures c.if2.true
 
 add-j : tie.Need-overflow-add-j invariant-loop decreases-loop
 add-j c = search rules
@@ -42,10 +42,10 @@ loop-again : tie.Need-loop-preserved invariant-loop decreases-loop
 loop-again c = word_more _ c.before.before.before.before.before.loop.invariant (omega arith) c.before.before.lower-byte.ensures c.if2.false
 
 returns-3 : tie.Need-returns-3 invariant-loop decreases-loop
-returns-3 c = word-all _ c.before.loop.invariant (omega arith)
+returns-3 c = word_all _ c.before.loop.invariant (omega arith)
 
-pub is-word-spec : {M : Type 1} → statement M
-is-word-spec =
+pub is_word_spec : {M : Type 1} → statement M
+is_word_spec =
     tie.close
     (tie.spec
     invariant-loop

@@ -5,7 +5,7 @@ use Rattle.text.proofs.bytes.run_to.Reads as reads
 use Rattle.text.proofs.bytes.run_to.Lts as lts
 use Rattle.text.proofs.bytes.run_end.Reads as run-end-reads
 use Rattle.text.specs.Text.{between}
-use Rattle.text.proofs.Runs.{run-between}
+use Rattle.text.proofs.Runs.{run_between}
 use native.Mathlib.Omega.{arith}
 
 -- src/bytes.rt:62:17
@@ -31,9 +31,9 @@ add-result c = search rules
 -- src/bytes.rt:58:1
 returns : tie.Need-returns
 unfolding between
-returns c = run-between _ _ _ _ _ (omega arith) (omega arith) c.run-end.ensures
+returns c = run_between _ _ _ _ _ (omega arith) (omega arith) c.run-end.ensures
 
-pub run-to-spec : {M : Type 1} → statement M
-run-to-spec =
+pub run_to_spec : {M : Type 1} → statement M
+run_to_spec =
     tie.close
     (tie.spec sub-run-end part-run-end-start part-run-end-end run-end-requires add-result returns)

@@ -4,8 +4,8 @@ use borrow.Author.Rules.{rules}
 use mathlib.Core.Path.{refl}
 use Prim.Native.Nat.{◌-◌, ◌≤◌}
 use native.Mathlib.Omega.{arith}
-use Rattle.text.specs.Number.{eightBytes}
-use Rattle.text.proofs.Spelling.{Spelling, spelling-start, spelling-more, spelling-end}
+use Rattle.text.specs.Number.{eight_bytes}
+use Rattle.text.proofs.Spelling.{Spelling, spelling_start, spelling_more, spelling_end}
 
 abbrev invariant-loop : tie.invariant-loop
 invariant-loop buf₀ at n m₀ i₀ buf m i = (i ≤ 8) × Spelling 256 (λ x. x) 8 n buf₀ at buf (8 - i) m
@@ -14,7 +14,7 @@ abbrev decreases-loop : tie.decreases-loop
 decreases-loop buf₀ at n m₀ i₀ buf m i = 8 - i
 
 loop-holds : tie.Need-loop-init invariant-loop decreases-loop
-loop-holds c = (omega arith, spelling-start _ _ _ _ _ _)
+loop-holds c = (omega arith, spelling_start _ _ _ _ _ _)
 
 cast-buf : tie.Need-overflow-cast-buf invariant-loop decreases-loop
 cast-buf c = search rules
@@ -35,7 +35,7 @@ loop-less : tie.Need-loop-smaller invariant-loop decreases-loop
 loop-less c = search rules
 
 loop-again : tie.Need-loop-preserved invariant-loop decreases-loop
-loop-again c = (omega arith, spelling-more _ _ _ _ _ c.before.loop.invariant.1 (omega arith) (omega arith) (omega arith) refl)
+loop-again c = (omega arith, spelling_more _ _ _ _ _ c.before.loop.invariant.1 (omega arith) (omega arith) (omega arith) refl)
 
 add-result : tie.Need-overflow-add-result invariant-loop decreases-loop
 add-result c = search rules
@@ -44,11 +44,11 @@ same_length : tie.Need-same-length invariant-loop decreases-loop
 same_length c = search rules
 
 returns : tie.Need-returns invariant-loop decreases-loop
-unfolding eightBytes
-returns c = spelling-end _ _ c.before.loop.invariant.1 (omega arith) (omega arith)
+unfolding eight_bytes
+returns c = spelling_end _ _ c.before.loop.invariant.1 (omega arith) (omega arith)
 
-pub eight-bytes-at-spec : {M : Type 1} → statement M
-eight-bytes-at-spec =
+pub eight_bytes_at_spec : {M : Type 1} → statement M
+eight_bytes_at_spec =
     tie.close
     (tie.spec
     invariant-loop

@@ -2,7 +2,7 @@ use borrow.Author.Rules.{rules}
 use Rattle.text.proofs.positional.hex_digit.Statement.{statement}
 use Rattle.text.proofs.positional.hex_digit.Tie as tie
 use borrow.Author.Tests.{lt-ltb, le-ltb}
-use Rattle.text.specs.Number.{hexDigit}
+use Rattle.text.specs.Number.{hex_digit}
 
 cast-result : tie.Need-overflow-cast-result
 cast-result c = search rules
@@ -11,7 +11,7 @@ add-result : tie.Need-overflow-add-result
 add-result c = search rules
 
 returns : tie.Need-returns
-unfolding hexDigit
+unfolding hex_digit
 returns c = simp (lt-ltb _ _ c.if1.true)
 
 cast-result-2 : tie.Need-overflow-cast-result-2
@@ -21,9 +21,9 @@ add-result-2 : tie.Need-overflow-add-result-2
 add-result-2 c = search rules
 
 returns-2 : tie.Need-returns-2
-unfolding hexDigit
+unfolding hex_digit
 returns-2 c = simp (le-ltb _ _ c.if1.false)
 
-pub hex-digit-spec : {M : Type 1} → statement M
-hex-digit-spec =
+pub hex_digit_spec : {M : Type 1} → statement M
+hex_digit_spec =
     tie.close (tie.spec cast-result add-result returns cast-result-2 add-result-2 returns-2)

@@ -3,17 +3,17 @@ use Rattle.text.proofs.positional.hexadecimal_at.Tie as tie
 use borrow.Author.Rules.{rules}
 use Prim.Native.Nat.{◌-◌, ◌≤◌}
 use native.Mathlib.Omega.{arith}
-use Rattle.text.specs.Number.{hexDigit, hexadecimal}
-use Rattle.text.proofs.Spelling.{Spelling, spelling-start, spelling-more, spelling-end}
+use Rattle.text.specs.Number.{hex_digit, hexadecimal}
+use Rattle.text.proofs.Spelling.{Spelling, spelling_start, spelling_more, spelling_end}
 
 abbrev invariant-loop : tie.invariant-loop
-invariant-loop buf₀ at n m₀ i₀ buf m i = (i ≤ 16) × Spelling 16 hexDigit 16 n buf₀ at buf (16 - i) m
+invariant-loop buf₀ at n m₀ i₀ buf m i = (i ≤ 16) × Spelling 16 hex_digit 16 n buf₀ at buf (16 - i) m
 
 abbrev decreases-loop : tie.decreases-loop
 decreases-loop buf₀ at n m₀ i₀ buf m i = 16 - i
 
 loop-holds : tie.Need-loop-init invariant-loop decreases-loop
-loop-holds c = (omega arith, spelling-start _ _ _ _ _ _)
+loop-holds c = (omega arith, spelling_start _ _ _ _ _ _)
 
 hex-digit-requires : tie.Need-hex-digit-requires invariant-loop decreases-loop
 hex-digit-requires c κs = search rules
@@ -34,7 +34,7 @@ loop-less : tie.Need-loop-smaller invariant-loop decreases-loop
 loop-less c = search rules
 
 loop-again : tie.Need-loop-preserved invariant-loop decreases-loop
-loop-again c = (omega arith, spelling-more _ _ _ _ _ c.before.before.loop.invariant.1 (omega arith) (omega arith) (omega arith) c.hex-digit.ensures)
+loop-again c = (omega arith, spelling_more _ _ _ _ _ c.before.before.loop.invariant.1 (omega arith) (omega arith) (omega arith) c.hex-digit.ensures)
 
 add-result : tie.Need-overflow-add-result invariant-loop decreases-loop
 add-result c = search rules
@@ -44,10 +44,10 @@ same_length c = search rules
 
 returns : tie.Need-returns invariant-loop decreases-loop
 unfolding hexadecimal
-returns c = spelling-end _ _ c.before.loop.invariant.1 (omega arith) (omega arith)
+returns c = spelling_end _ _ c.before.loop.invariant.1 (omega arith) (omega arith)
 
-pub hexadecimal-at-spec : {M : Type 1} → statement M
-hexadecimal-at-spec =
+pub hexadecimal_at_spec : {M : Type 1} → statement M
+hexadecimal_at_spec =
     tie.close
     (tie.spec
     invariant-loop

@@ -3,8 +3,8 @@ use Rattle.vectors.proofs.actions.apply.Statement.{statement}
 use Rattle.vectors.proofs.actions.apply.Tie as tie
 use mathlib.Core.Path.{sym, ◌∙◌}
 use native.Mathlib.Omega.{arith}
-use Rattle.er7_redact.proofs.Actions.{answered-room}
-use Rattle.er7_redact.proofs.ActionReadBack.{parsed-held}
+use Rattle.er7_redact.proofs.Actions.{answered_room}
+use Rattle.er7_redact.proofs.ActionReadBack.{parsed_held}
 
 parse-requires : tie.Need-parse-requires
 parse-requires c κs = search rules
@@ -25,7 +25,7 @@ number-requires : tie.Need-number-requires
 number-requires c κs = search rules
 
 apply-requires : tie.Need-apply-requires
-apply-requires c κs = let a = c.before.before.before.before.before.before.before.before.before.before.before.before.before.before.args.a.now in let h = parsed-held a a 0 _ _ (omega arith) c.before.before.before.before.before.before.before.before.before.before.parse.ensures c.before.before.before.before.before.before.before.before.p.given.1 in (h, omega (arith, answered-room _ (sym (c.before.before.before.before.before.before.applied-len.ensures a c.before.number.result h) ∙ c.before.before.before.before.n.given.1)))
+apply-requires c κs = let a = c.before.before.before.before.before.before.before.before.before.before.before.before.before.before.args.a.now in let h = parsed_held a a 0 _ _ (omega arith) c.before.before.before.before.before.before.before.before.before.before.parse.ensures c.before.before.before.before.before.before.before.before.p.given.1 in (h, omega (arith, answered_room _ (sym (c.before.before.before.before.before.before.applied-len.ensures a c.before.number.result h) ∙ c.before.before.before.before.n.given.1)))
 
 enum_told : tie.Need-enum-told
 enum_told c = search rules
@@ -54,8 +54,8 @@ returns-3 c = search rules
 returns-4 : tie.Need-returns-4
 returns-4 c = search rules
 
-pub apply-spec : {M : Type 1} → statement M
-apply-spec =
+pub apply_spec : {M : Type 1} → statement M
+apply_spec =
     tie.close
     (tie.spec
     parse-requires

@@ -30,8 +30,8 @@ loop-again c = search rules
 returns-2 : tie.Need-returns-2 invariant-loop decreases-loop
 returns-2 c = search rules
 
-pub group-of-spec : {M : Type 1} → statement M
-group-of-spec =
+pub group_of_spec : {M : Type 1} → statement M
+group_of_spec =
     tie.close
     (tie.spec
     invariant-loop

@@ -52,8 +52,8 @@ loop-again c = search rules
 returns-3 : tie.Need-returns-3 invariant-loop decreases-loop
 returns-3 c = search rules
 
-pub unescape-spec : {M : Type 1} → statement M
-unescape-spec =
+pub unescape_spec : {M : Type 1} → statement M
+unescape_spec =
     tie.close
     (tie.spec
     invariant-loop

@@ -27,7 +27,7 @@ loop-again c = search rules
 returns : tie.Need-returns invariant-loop decreases-loop
 returns c = search rules
 
-pub put-leaves-spec : {M : Type 1} → statement M
-put-leaves-spec =
+pub put_leaves_spec : {M : Type 1} → statement M
+put_leaves_spec =
     tie.close
     (tie.spec invariant-loop decreases-loop loop-holds show-leaf-requires add-j loop-less loop-again returns)

@@ -33,8 +33,8 @@ loop-again c = search rules
 returns : tie.Need-returns invariant-loop decreases-loop
 returns c = search rules
 
-pub put-segments-spec : {M : Type 1} → statement M
-put-segments-spec =
+pub put_segments_spec : {M : Type 1} → statement M
+put_segments_spec =
     tie.close
     (tie.spec
     invariant-loop
