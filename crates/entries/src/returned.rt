@@ -11,7 +11,7 @@ use refusal::{Refusal, number};
 use text::bytes::zero_from;
 
 // What a call of print, append, built-in or payload hands back beside its buffers: number, line, and the text's length.
-#[derive(Drop)]
+#[derive(Clone, Copy)]
 pub struct Returned {
     pub number: u32,
     pub line: u64,
@@ -19,7 +19,7 @@ pub struct Returned {
 }
 
 // .. and one of redact: the report's length and its rows too.
-#[derive(Drop)]
+#[derive(Clone, Copy)]
 pub struct ReturnedReport {
     pub number: u32,
     pub line: u64,

@@ -1,7 +1,7 @@
 // The parts of a message.
 
 // Where a leaf stands in its segment; each number counts from 1.
-#[derive(Drop)]
+#[derive(Clone, Copy)]
 pub struct Place {
     pub field: usize,
     pub repetition: usize,
@@ -10,7 +10,7 @@ pub struct Place {
 }
 
 // A segment's name, and its number among the segments of that name.
-#[derive(Drop)]
+#[derive(Clone, Copy)]
 pub struct Label {
     pub a: u8,
     pub b: u8,

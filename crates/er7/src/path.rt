@@ -9,7 +9,7 @@ use text::bytes::{Class, byte_at, copy_at, run_end};
 use text::decimal::{Number, decimal_at, decimal_len, number_at};
 
 // A path: its segment's name, which is segment_len bytes of a text from index segment on, and five indices, 0 where one is absent.
-#[derive(Drop)]
+#[derive(Clone, Copy)]
 pub struct Path {
     pub segment: usize,
     pub segment_len: usize,
@@ -20,7 +20,7 @@ pub struct Path {
     pub subcomponent: u64,
 }
 
-#[derive(Drop)]
+#[derive(Clone, Copy)]
 pub enum ParsedPath {
     Parsed(Path),
     BadPath,

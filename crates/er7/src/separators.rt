@@ -1,7 +1,7 @@
 // The delimiters of a message.
 
 // The five bytes that a message's header names.
-#[derive(Drop)]
+#[derive(Clone, Copy)]
 pub struct Separators {
     pub field: u8,
     pub component: u8,

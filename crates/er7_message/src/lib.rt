@@ -1,3 +1,4 @@
 // Reads a message into its two tables.
+#![tactic(auto)]
 pub mod message;
 pub mod separators;

@@ -16,7 +16,7 @@ use refusal::input::{Input, no_foreign};
 use refusal::limits::{INPUT_MAX, LEAVES_MAX, SEGMENTS_MAX};
 
 // A message that was read: its delimiters, how many segments and leaves stand in the tables, and whether its last byte is a CR.
-#[derive(Drop)]
+#[derive(Clone, Copy)]
 pub struct Layout {
     pub separators: Separators,
     pub segments: usize,
@@ -24,7 +24,7 @@ pub struct Layout {
     pub last_cr: bool,
 }
 
-#[derive(Drop)]
+#[derive(Clone, Copy)]
 pub enum ParsedMessage {
     Read(Layout),
     Refused(Refusal),

@@ -13,7 +13,7 @@ use text::bytes::{Class, byte_at, copy_at, fill_at, is_word, run_end};
 use text::decimal::{Number, decimal_at, decimal_len, number_at};
 
 // The actions. A replacement is len bytes of a text from index start on; len is 0 for that of a bare `replace`.
-#[derive(Drop)]
+#[derive(Clone, Copy)]
 pub enum Action {
     Keep,
     Clear,
@@ -26,14 +26,14 @@ pub enum Action {
     Shift(i64),
 }
 
-#[derive(Drop)]
+#[derive(Clone, Copy)]
 pub enum ParsedAction {
     Parsed(Action),
     Refused(Refusal),
 }
 
 // An action's name.
-#[derive(Drop)]
+#[derive(Clone, Copy)]
 pub enum Verb {
     Keep,
     Clear,
@@ -48,14 +48,14 @@ pub enum Verb {
 }
 
 // The number of characters that `first` or `last` keeps.
-#[derive(Drop)]
+#[derive(Clone, Copy)]
 pub enum Count {
     Of(u64),
     BadCount,
 }
 
 // The length of the text that is written in a value's place, if one is.
-#[derive(Drop)]
+#[derive(Clone, Copy)]
 pub enum Applied {
     Written(usize),
     Nothing,

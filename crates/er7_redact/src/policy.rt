@@ -3,14 +3,14 @@ use super::action::Action;
 use er7::path::Path;
 
 // A path and what to do there. The path's name and the action's replacement stand in the policy's text.
-#[derive(Drop)]
+#[derive(Clone, Copy)]
 pub struct Rule {
     pub path: Path,
     pub action: Action,
 }
 
 // What a leaf gets that no rule names: it stays as it is, or gets an action.
-#[derive(Drop)]
+#[derive(Clone, Copy)]
 pub enum Posture {
     Accept,
     Reject(Action),

@@ -1,3 +1,4 @@
 // Changes and prints a message that stands in its two tables.
+#![tactic(auto)]
 pub mod render;
 pub mod store;

@@ -1,2 +1,3 @@
 // The tables that hold a message: its leaves and its segments.
+#![tactic(auto)]
 pub mod table;

@@ -9,14 +9,14 @@ use er7::separators::Separators;
 use text::bytes::{Class, byte_at, copy_at, run_end, same_bytes};
 
 // The delimiter that a letter between two escape characters names.
-#[derive(Drop)]
+#[derive(Clone, Copy)]
 pub enum Delimiter {
     Is(u8),
     Unnamed,
 }
 
 // The letter that names a delimiter.
-#[derive(Drop)]
+#[derive(Clone, Copy)]
 pub enum Letter {
     Of(u8),
     NoDelimiter,

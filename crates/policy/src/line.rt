@@ -15,7 +15,7 @@ use refusal::Refusal;
 use text::bytes::{Class, is_in, is_word, run_to};
 
 // What a payload gets: it passes, is refused, or gets an action.
-#[derive(Drop)]
+#[derive(Clone, Copy)]
 pub enum Unrecognised {
     Pass,
     Refuse,
@@ -23,7 +23,7 @@ pub enum Unrecognised {
 }
 
 // What a line says.
-#[derive(Drop)]
+#[derive(Clone, Copy)]
 pub enum LineRead {
     Nothing,
     Rule(Rule),
@@ -34,7 +34,7 @@ pub enum LineRead {
 }
 
 // What a line's first word picks.
-#[derive(Drop)]
+#[derive(Clone, Copy)]
 pub enum LineKind {
     Accept,
     Reject,

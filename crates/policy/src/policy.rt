@@ -14,7 +14,7 @@ use refusal::limits::{INPUT_MAX, RULES_MAX};
 use text::bytes::{Class, run_end};
 
 // The rules in their order, the first `count` of the array, and the three defaults. Names and replacements stand in the policy's text.
-#[derive(Drop)]
+#[derive(Clone, Copy)]
 pub struct Policy {
     pub rules: [Rule; RULES_MAX],
     pub count: usize,
@@ -24,21 +24,21 @@ pub struct Policy {
 }
 
 // Whether a policy was read, or a refusal with its line.
-#[derive(Drop)]
+#[derive(Clone, Copy)]
 pub enum Verdict {
     Read,
     Refused(Refusal, usize),
 }
 
 // The policy if it was read, and the verdict.
-#[derive(Drop)]
+#[derive(Clone, Copy)]
 pub struct ParsedPolicy {
     pub policy: Policy,
     pub verdict: Verdict,
 }
 
 // What a policy says beside its rules.
-#[derive(Drop)]
+#[derive(Clone, Copy)]
 pub struct Defaults {
     pub posture: Posture,
     pub unrecognised: Unrecognised,
@@ -46,7 +46,7 @@ pub struct Defaults {
 }
 
 // Why a line is refused, if it is.
-#[derive(Drop)]
+#[derive(Clone, Copy)]
 pub enum Fault {
     None,
     Is(Refusal),

@@ -19,7 +19,7 @@ use refusal::Refusal;
 use refusal::limits::RULES_MAX;
 
 // The length of the text that was written, or a refusal with its line.
-#[derive(Drop)]
+#[derive(Clone, Copy)]
 pub enum Printed {
     Written(usize),
     Refused(Refusal, usize),

@@ -1,2 +1,3 @@
 // The entry redact.
+#![tactic(auto)]
 pub mod redact;

@@ -19,7 +19,7 @@ use refusal::Refusal;
 use refusal::limits::LEAVES_MAX;
 
 // The lengths of the text and of the report, and how many rows it has; or a refusal with its line.
-#[derive(Drop)]
+#[derive(Clone, Copy)]
 pub enum Answer {
     Redacted {
         text_len: usize,

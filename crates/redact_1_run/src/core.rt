@@ -19,7 +19,7 @@ use refusal::limits::LEAVES_MAX;
 use text::bytes::copy_at;
 
 // The lengths of the text and of the report, and how many rows it has; or a refusal.
-#[derive(Drop)]
+#[derive(Clone, Copy)]
 pub enum Redacted {
     Redacted {
         text_len: usize,

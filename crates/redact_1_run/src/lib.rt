@@ -1,3 +1,4 @@
 // One message, redacted.
+#![tactic(auto)]
 pub mod core;
 pub mod run;

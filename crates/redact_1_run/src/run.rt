@@ -18,7 +18,7 @@ use redact_6_row::reach::{Reach, reach_of};
 use refusal::limits::LEAVES_MAX;
 
 // Which leaves are named, and how far the run has come.
-#[derive(Drop)]
+#[derive(Clone, Copy)]
 pub struct Run {
     pub named: [bool; LEAVES_MAX],
     pub done: Done,

@@ -1,2 +1,3 @@
 // A turn of a run over a message's tables.
+#![tactic(auto)]
 pub mod turn;

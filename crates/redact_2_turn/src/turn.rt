@@ -25,7 +25,7 @@ use redact_6_row::reach::{index_fits, reaches_place, touchable};
 use refusal::limits::LEAVES_MAX;
 
 // A rule on each leaf, a rule on nodes, a rejecting posture, the sweep, or nothing.
-#[derive(Drop)]
+#[derive(Clone, Copy)]
 pub enum Turn {
     Apply(Rule),
     Collapse(Rule),
@@ -36,7 +36,7 @@ pub enum Turn {
 
 // What a turn looks at: every segment, or some, those of that name and of the path's occurrence; in them the leaves that the path's numbers
 // fit, all of them or only those that no rule named, with those that are empty or without.
-#[derive(Drop)]
+#[derive(Clone, Copy)]
 pub struct Aim {
     pub every: bool,
     pub some: bool,
@@ -49,7 +49,7 @@ pub struct Aim {
 }
 
 // A turn of a run, and what it looks at.
-#[derive(Drop)]
+#[derive(Clone, Copy)]
 pub struct Job {
     pub on: Setting,
     pub turn: Turn,

@@ -1,2 +1,3 @@
 // The collapse of a node.
+#![tactic(auto)]
 pub mod node;

@@ -18,7 +18,7 @@ use redact_6_row::report::row_at;
 use refusal::Refusal;
 
 // Where a leaf stands: in a segment with that label, whose leaves end before index end, at that index.
-#[derive(Drop)]
+#[derive(Clone, Copy)]
 pub struct Spot {
     pub label: Label,
     pub end: usize,

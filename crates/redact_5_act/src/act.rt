@@ -19,7 +19,7 @@ use er7_value::escape;
 use text::bytes::{copy_at, same_bytes};
 
 // What becomes of a leaf: its text stays, or is of that length, or would leave the message too long.
-#[derive(Drop)]
+#[derive(Clone, Copy)]
 pub enum Effect {
     Stays,
     Becomes(usize),

@@ -21,14 +21,14 @@ use text::bytes::same_bytes;
 pub const KNOWN_CELLS: usize = LEARNT_MAX * 8;
 
 // How many values are known, and how many bytes they take; or that there are too many.
-#[derive(Drop)]
+#[derive(Clone, Copy)]
 pub enum Learnt {
     Kept(usize, usize),
     Full,
 }
 
 // An action as three numbers: its kind and its operands, 0 where it has none.
-#[derive(Drop)]
+#[derive(Clone, Copy)]
 pub struct Code {
     pub kind: usize,
     pub x: usize,

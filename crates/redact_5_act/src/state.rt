@@ -8,7 +8,7 @@ use refusal::Refusal;
 use refusal::limits::TEXT_MAX;
 
 // What holds for a whole run: the key, the delimiters, whether values are learnt, and how many segments and leaves the message has.
-#[derive(Drop)]
+#[derive(Clone, Copy)]
 pub struct Setting {
     pub key: u64,
     pub separators: Separators,
@@ -18,7 +18,7 @@ pub struct Setting {
 }
 
 // How far a run has come: rows and bytes of its report, the message's size, the bytes of the store that are used, the values that are known and their bytes.
-#[derive(Drop)]
+#[derive(Clone, Copy)]
 pub struct Counters {
     pub rows: usize,
     pub report_len: usize,
@@ -29,14 +29,14 @@ pub struct Counters {
 }
 
 // The run goes on, or is refused.
-#[derive(Drop)]
+#[derive(Clone, Copy)]
 pub enum Done {
     Going(Counters),
     Stopped(Refusal),
 }
 
 // A step of a run was made, or is refused.
-#[derive(Drop)]
+#[derive(Clone, Copy)]
 pub enum Step {
     Made,
     Refused(Refusal),

@@ -15,7 +15,7 @@ use er7_redact::policy::Rule;
 use er7_table::table::is_header_name;
 
 // Where a rule acts: on each leaf, or on each node of a depth.
-#[derive(Drop)]
+#[derive(Clone, Copy)]
 pub enum Reach {
     EachLeaf,
     EachField,

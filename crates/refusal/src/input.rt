@@ -3,7 +3,7 @@ ghost use Rattle.std.specs.Prelude.{◌≡◌, ◌+◌, ◌≤◌, ◌<◌, leng
 ghost use Rattle.refusal.specs.Refusal.{is_plain, begins_in_lf, is_allowed, no_foreign};
 
 // A message, a policy or a payload.
-#[derive(Drop)]
+#[derive(Clone, Copy)]
 pub enum Input {
     Message,
     Policy,

@@ -1,4 +1,5 @@
 // The refusals of the entries, each with its number; and the bytes that a message, a policy and a payload may hold.
+#![tactic(auto)]
 pub mod input;
 pub mod limits;
 
@@ -6,7 +7,7 @@ ghost use Rattle.std.specs.Prelude.{◌≡◌};
 ghost use Rattle.refusal.specs.Refusal as R;
 
 // Why a call is refused, each with its number and its word in the table of refusals.
-#[derive(Drop)]
+#[derive(Clone, Copy)]
 pub enum Refusal {
     // 1, short bench
     ShortBuffer,

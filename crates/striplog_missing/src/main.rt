@@ -1,4 +1,5 @@
 // striplog without a policy.
+#![tactic(auto)]
 fn main() {
     striplog_run::files::run();
 }

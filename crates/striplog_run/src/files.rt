@@ -6,7 +6,7 @@ use libc::STDOUT_FILENO;
 use striplog_text::key::{Key, feed};
 
 // Whether a file is there, and how many of its bytes were read.
-#[derive(Drop)]
+#[derive(Clone, Copy)]
 struct Loaded {
     there: bool,
     len: usize,

@@ -5,7 +5,7 @@ ghost use Rattle.striplog_text.specs.Key.{with_digit, behind_digits, fed_byte, f
 use text::bytes::{Class, is_in};
 
 // What the bytes so far are: none, digits with their worth, such digits and one LF behind them, or no key.
-#[derive(Drop)]
+#[derive(Clone, Copy)]
 pub enum Key {
     Nothing,
     Digits(u64),

@@ -3,7 +3,7 @@ ghost use Rattle.std.specs.Prelude.{◌≡◌, [], ◌∷◌, ◌+◌, ◌≤◌
 ghost use Rattle.text.specs.Text.{is_in, lower_byte, same, is_word, RunEnd, RunTo, Wrote, zeroed};
 
 // Sets of bytes: digits, letters and digits, blanks and tabs, all but these, all but one byte.
-#[derive(Drop)]
+#[derive(Clone, Copy)]
 pub enum Class {
     Digit,
     Alphanumeric,

@@ -7,7 +7,7 @@ ghost use Rattle.text.specs.Inner.{has_room};
 use super::bytes::{Class, is_in};
 
 // A number that was read, with the index behind it.
-#[derive(Drop)]
+#[derive(Clone, Copy)]
 pub enum Number {
     At(u64, usize),
     Refused,

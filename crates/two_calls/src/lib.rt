@@ -1,4 +1,5 @@
 // Demand 3 of the code: two calls of redact on messages that are alike in all but covered leaves.
+#![tactic(auto)]
 ghost use Rattle.std.specs.Prelude.{length};
 ghost use Rattle.entries.specs.Returned.{lent_report, as_redact_outcome};
 ghost use Rattle.two_calls.specs.TwoCalls.{RedactedTwice};
@@ -7,7 +8,7 @@ use entries::returned::ReturnedReport;
 use redact::redact::redact;
 
 // What the two calls hand back beside their buffers.
-#[derive(Drop)]
+#[derive(Clone, Copy)]
 pub struct Twice {
     pub one: ReturnedReport,
     pub two: ReturnedReport,

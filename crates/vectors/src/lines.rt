@@ -6,7 +6,7 @@ use super::parts::Page;
 use text::bytes::{Class, run_end};
 
 // A part of a text, from its start up to its end.
-#[derive(Drop)]
+#[derive(Clone, Copy)]
 pub struct Span {
     pub start: usize,
     pub end: usize,
@@ -61,7 +61,7 @@ pub fn byte_of(s: &[u8], k: usize) -> u8 {
 }
 
 // A byte that was read, with the number of bytes that it is written with.
-#[derive(Drop)]
+#[derive(Clone, Copy)]
 struct Byte {
     value: u8,
     width: usize,

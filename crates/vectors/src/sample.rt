@@ -36,7 +36,7 @@ fn is_number(line: &[u8], k: usize, n: u64) -> bool {
 }
 
 // The lengths of the buffers that a call is handed.
-#[derive(Drop)]
+#[derive(Clone, Copy)]
 struct Room {
     output: usize,
     report: usize,
