@@ -54,6 +54,7 @@ class Function:
         def one(m):
             depth = m[1].count(".before")
             rest = [it for it in m[2].split(".") if it]
+            rest = rest and [re.sub(r"_lem$", "", rest[0].replace("is_IsWord", "is_word")), *rest[1:]]
             if not rest:
                 return m[0]
             at = self.place.get(asked)
@@ -67,8 +68,8 @@ class Function:
                 return m[0]
             i, p = chain[depth]
             step, new = p[2]
-            if rest[0] in ("args", "requires", "ranges", "well_formed", "lifetimes"):
-                return ".".join(["c", *rest])
+            if rest[0] in ("args", "requires", "ranges", "well_formed", "well-formed", "lifetimes"):
+                return ".".join(["c", rest[0].replace("-", "_"), *rest[1:]])
             if norm(rest[0]) != norm(step) and norm(rest[0]) != norm(new):
                 # a step of a place behind, or the place stands twice
                 found = [q for q in chain if norm(rest[0]) in (norm(q[1][2][0]), norm(q[1][2][1]))]
@@ -182,6 +183,8 @@ def turn(names, folder, crate, module):
             used = re.match(r"tie\.Need-(\S+)", kind)[1]
             i = f.need(used, k, total)
             k += 1
+            if i is None and used.startswith("slice-aggregate"):
+                continue
             if i is None:
                 said.append(f"no goal {used}")
                 local.append("-- " + plain.replace("\n", "\n-- "))

@@ -116,6 +116,8 @@ def turn_antt(path, turned, fields, crates):
         if word.startswith('"') or word not in turned or word in kept:
             return word
         before = text[m.start() - 1 : m.start()]
+        if re.search(r"(?<![\w.'-])[A-Z]\w*\.$", text[max(0, m.start() - 60) : m.start()]):
+            return turned[word]
         if before == "." and (word not in fields or (walk and re.search(r"\bc(?:\.before)*\.[\w-]*$|Need-[\w-]*$|tie\.$|lts\.[\w-]*$|reads?\.$|c\.[\w.-]*\.$", text[max(0, m.start() - 120) : m.start()]) and not re.search(r"\.(ensures|requires|invariant)[\w.-]*\.$", text[max(0, m.start() - 120) : m.start()]))):
             return word
         return turned[word]

@@ -56,8 +56,8 @@ module _ (t s : Text) (i : ℕ) (w : part t i (length s) ≡ s) (k : i + length 
       go (is_action a) e =
           unfold as_parsed_action held_read in
           let f : r ≡ Actions.Parsed (held_as (i + argument_at s) (length (argument s)) a) = q ∙ ap (held_read _ _) e in
-          let g = ActionBack.parsed-held t s i r _ k q f in
-          rw f (record { is = ap is_action (ActionBack.held-stands t s i a w e); held = g })
+          let g = ActionBack.parsed_held t s i r _ k q f in
+          rw f (record { is = ap is_action (ActionBack.held_stands t s i a w e); held = g })
 
   path_in : (r : ParsedPath) → r ≡ held_path i (length (run is_alphanumeric s)) (read_path s) → PathAt t (read_path s) r
   path_in r q = go (read_path s) refl
@@ -66,9 +66,9 @@ module _ (t s : Text) (i : ℕ) (w : part t i (length s) ≡ s) (k : i + length 
       go none e = unfold held_path as_parsed_path in rw (q ∙ ap (held_path _ _) e) (record { is = refl; held = tt })
       go (some p) e =
           unfold as_parsed_path held_path in
-          let f : r ≡ Paths.Parsed (P.heldAs i (length (run is_alphanumeric s)) p) = q ∙ ap (held_path _ _) e in
-          let g = PathBack.parsed-held t s i r _ k q f in
-          rw f (record { is = ap some (PathBack.held-stands t s i p w e); held = g })
+          let f : r ≡ Paths.Parsed (P.held_as i (length (run is_alphanumeric s)) p) = q ∙ ap (held_path _ _) e in
+          let g = PathBack.parsed_held t s i r _ k q f in
+          rw f (record { is = ap some (PathBack.held_stands t s i p w e); held = g })
 
 module _ (t : Text) (i e : ℕ) (h : i ≤ e) (l : e ≤ length t) where
   pub action_between : (r : ParsedAction) → r ≡ held_read (i + argument_at (between t i e)) (length (argument (between t i e))) (read_action (between t i e))

@@ -90,7 +90,7 @@ module _ (key : ℕ) (sweep : Bool) {message : Text} {m : Message} {policy : Tex
   first_print = rw w.standing.separators (ap length (sym w.prints))
 
   first_known : GoodKnown bytes known 0 0
-  unfolding known_from R.knownBytes
+  unfolding known_from R.known_bytes
   first_known = record {
     few = omega arith;
     within = omega arith;
