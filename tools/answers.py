@@ -119,7 +119,7 @@ def uses(lines, text):
         for it in [x.strip() for x in m[2].split(",")]:
             shown = it.split(" as ")[-1]
             parts = holes(shown)
-            if shown in have or all(p in have or p in text for p in parts) and "◌" in shown:
+            if shown in have or shown == "[]" and "[]" in text or all(p in have or p in text for p in parts) and "◌" in shown:
                 kept.append(it)
         if kept:
             out.append(f"use {m[1]}.{{{', '.join(kept)}}}")

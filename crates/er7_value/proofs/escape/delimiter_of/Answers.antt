@@ -1,3 +1,6 @@
+use Rattle.std.proofs.Common.{rules, arith}
+use Rattle.std.proofs.Common.{rules, arith}
+use Rattle.std.proofs.Common.{rules, arith}
 use borrow.Author.Tests.{ne_eqb}
 use mathlib.Core.Path.{sym, ap}
 use Prim.Native.Nat.{ℕ}
@@ -27,4 +30,4 @@ returns-in-69 c = sym (ap (λ (l : ℕ). held_delimiter (delimiter_of c.args.s l
 
 pub returns-in_default : goal.returns-in_default
 unfolding held_delimiter delimiter_of
-returns-in_default c = simp (ne_eqb _ _ c.in_default.rest.0.0.0.0.1, ne_eqb _ _ c.in_default.rest.0.0.0.1, ne_eqb _ _ c.in_default.rest.0.0.1, ne_eqb _ _ c.in_default.rest.0.1, ne_eqb _ _ c.in_default.not-69)
+returns-in_default c = grind arith

@@ -1,0 +1,7 @@
+use Rattle.message_model.specs.Message.{separators_of}
+use Rattle.er7_message.proofs.Parsing.{nothing_read}
+use Rattle.er7_message.proofs.message.read_nothing.Goals as goal
+
+pub returns : goal.returns
+unfolding separators_of
+returns c = nothing_read c.args.segs.now

@@ -1,0 +1,14 @@
+use mathlib.Core.List.{[]}
+use mathlib.Core.Path.{◌≡◌}
+use Prim.Native.Nat.{◌+◌, ◌-◌, ◌≤◌}
+use lib.ListN.{length, drop}
+use Rattle.message_model.specs.Message.{segment_lines}
+use Rattle.er7_message.specs.Inner.{Reading}
+use Rattle.er7_message.proofs.message.read_rest.Given as goal
+
+abbrev pub invariant-loop-s : goal.invariant-loop-s
+invariant-loop-s l =
+    (l.i ≤ length l.text) × (1 ≤ l.k) × Reading l.s l.text l.segs l.cells l.k l.n (segment_lines [] (drop l.i l.text)) × (length l.cells ≡ length l.initial.cells) × (l.n ≤ l.i)
+
+abbrev pub decreases-loop-s : goal.decreases-loop-s
+decreases-loop-s l = length l.text + 1 - l.i

@@ -1,0 +1,19 @@
+use mathlib.Core.Path.{sym, ◌∙◌}
+use native.Mathlib.Omega.{arith}
+use Rattle.text.specs.Text.{is_in}
+use Rattle.policy.proofs.Lines.{trimming_start, trimming_more, trimming_stop, trimming_end}
+use Rattle.policy.proofs.line.trimmed_end.Goals as goal
+
+pub loop-j-init : goal.loop-j-init
+loop-j-init c = trimming_start _ _ _ (omega arith)
+
+pub returns-then-not-is_in : goal.returns-then-not-is_in
+unfolding is_in
+returns-then-not-is_in c = trimming_stop (omega arith) c.loop-j.invariant (omega arith) (sym c.is_in.ensures ∙ c.if-not-is_in.true)
+
+pub loop-j-preserved : goal.loop-j-preserved
+unfolding is_in
+loop-j-preserved c = trimming_more (omega arith) c.loop-j.invariant (omega arith) (sym c.is_in.ensures ∙ c.if-not-is_in.false)
+
+pub returns : goal.returns
+returns c = trimming_end (omega arith) c.loop-j.invariant (omega arith)
