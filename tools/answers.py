@@ -57,6 +57,8 @@ class Function:
             rest = rest and [re.sub(r"_lem$", "", rest[0].replace("is_IsWord", "is_word")), *rest[1:]]
             if not rest:
                 return m[0]
+            if rest[0] in ("args", "requires", "ranges", "well_formed", "well-formed", "lifetimes"):
+                return ".".join(["c", rest[0].replace("-", "_"), *rest[1:]])
             at = self.place.get(asked)
             chain = []
             while at:
@@ -68,8 +70,6 @@ class Function:
                 return m[0]
             i, p = chain[depth]
             step, new = p[2]
-            if rest[0] in ("args", "requires", "ranges", "well_formed", "well-formed", "lifetimes"):
-                return ".".join(["c", rest[0].replace("-", "_"), *rest[1:]])
             if norm(rest[0]) != norm(step) and norm(rest[0]) != norm(new):
                 # a step of a place behind, or the place stands twice
                 found = [q for q in chain if norm(rest[0]) in (norm(q[1][2][0]), norm(q[1][2][1]))]

@@ -11,7 +11,7 @@ use lib.Dec.{T, ltb}
 use Rattle.text.specs.Text.{Text, lower, same}
 use Rattle.er7.specs.declared.message.Place.{Place}
 use Rattle.er7.specs.declared.separators.Separators.{Separators}
-use Rattle.er7_redact.specs.Action.{Action, keep, clear, null, pseudonym, replace, mask, first, last, kind, is_keep, is_null_action, apply}
+use Rattle.er7_redact.specs.Action.{Action, keep, clear, null, pseudonym, replace, mask, first, last, shift, kind, is_keep, is_null_action, apply}
 use Rattle.er7_redact.specs.Policy.{Rule}
 use Rattle.message_model.specs.Message.{Leaf, leaf, Label, Segment, segment}
 use Rattle.message_model.specs.Value.{is_null, is_empty_or_null, value}
@@ -189,6 +189,7 @@ keep_is (replace t) h = absurd h
 keep_is (mask c) h = absurd h
 keep_is (first n) h = absurd h
 keep_is (last n) h = absurd h
+keep_is (shift d) h = absurd h
 
 cond_stays : (b : Bool) → cond b stays stays ≡ stays
 cond_stays true = refl

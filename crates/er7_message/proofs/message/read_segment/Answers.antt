@@ -19,4 +19,4 @@ pub overflow_cast-c : goal.overflow_cast-c
 overflow_cast-c c = omega (arith, c.shared_slice_known-4-1.given (c.args.i + 2))
 
 pub returns : goal.returns
-returns c = segment_fits _ _ _ _ _ _ _ _ c.before.before.before.before.before.before.before.before.before.before.before.before.before.before.before.requires.7 c.read_behind-m.ensures (omega arith) (omega arith) (omega arith) (omega arith) c.occurrence-number.ensures c.put_segment.ensures
+returns c = segment_fits _ _ _ _ _ _ _ _ c.requires.7 c.read_behind-m.ensures (omega arith) (omega arith) (omega arith) (omega arith) c.occurrence-number.ensures c.put_segment.ensures

@@ -4,7 +4,7 @@ use Rattle.er7_render.proofs.Packing.{pack_back}
 use Rattle.er7_render.proofs.store.compact.Goals as goal
 
 pub pack-r-requires : goal.pack-r-requires
-pack-r-requires c = (good_more c.before.before.before.before.before.before.requires.0 c.before.before.before.before.before.before.requires.0.room (omega arith), c.before.before.before.before.before.before.requires.2)
+pack-r-requires c = (good_more c.requires.0 c.requires.0.room (omega arith), c.requires.2)
 
 pub returns : goal.returns
 returns c = pack_back c.pack-r.ensures c.copy_at.ensures

@@ -7,4 +7,4 @@ pub compact-requires : goal.compact-requires
 compact-requires c = (c.requires.0, c.requires.1, simp (length-take, length-drop) (omega (arith, c.requires.2)))
 
 pub returns : goal.returns
-returns c = (c.compact.ensures, same_part _ _ c.compact.new.1.1.1.0 (omega arith) c.compact.auto.1.1.1.0)
+returns c = (c.compact.ensures, same_part _ _ c.compact.new.spare (omega arith) c.compact.auto.spare)
