@@ -70,9 +70,9 @@ class Function:
                 return m[0]
             i, p = chain[depth]
             step, new = p[2]
-            if norm(rest[0]) != norm(step) and norm(rest[0]) != norm(new):
+            if norm(rest[0]) != norm(step):
                 # a step of a place behind, or the place stands twice
-                found = [q for q in chain if norm(rest[0]) in (norm(q[1][2][0]), norm(q[1][2][1]))]
+                found = [q for q in chain if norm(rest[0]) == norm(q[1][2][0])] or [q for q in chain if norm(rest[0]) == norm(q[1][2][1])]
                 if not found:
                     say(f"no step {m[0]} ({step})")
                     return m[0]
