@@ -92,6 +92,13 @@ class Function:
                 if tail and tail[0] == old:
                     tail = [label, *tail[1:]]
                     break
+            if len(tail) > 1 and tail[0] in ("new", "auto") and p[3] in self.of["params"] and tail[1] in ("0", "1"):
+                k = 1
+                while k < len(tail) and tail[k] == "1":
+                    k += 1
+                names = self.of["params"][p[3]]
+                if k < len(tail) and tail[k] == "0" and k - 1 < len(names):
+                    tail = [tail[0], names[k - 1], *tail[k + 1 :]]
             return ".".join(["c", new, *tail])
 
         return re.sub(r"(?<![\w.'-])c((?:\.before)*)((?:\.[A-Za-z0-9_κ'+-]+)*)(?![\w'-])", one, body)
@@ -203,7 +210,7 @@ def turn(names, folder, crate, module):
             value = re.sub(r"\((c\.[^\s()]+)\)", r"\1", value)
             if "κs" in value:
                 said.append(f"{new} uses κs")
-            answers.append((new, f"pub {new} : goal.{new}\n" + (unfolding[0] + "\n" if unfolding else "") + f"{new} c ={value}"))
+            answers.append((new, f"pub {new} : goal.{new}\n" + (unfolding[0] + "\n" if unfolding else "") + f"{new} {' '.join(q for q in params if q != 'κs')} ={value}"))
             continue
         if "statement M" in kind:
             continue
