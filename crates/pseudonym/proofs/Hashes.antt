@@ -1,18 +1,11 @@
 -- Laws of FNV-1a. Assumes nothing.
 use Rattle.std.proofs.Common.{◌≡◌, ℕ, ◌+◌, ◌<◌, ◌≤◌, [], ◌∷◌, ◌++◌, length, get_or, drop, sym, refl, ◌∙◌, arith, drop_of_length-le}
-use lib.Bits.{bit_xor}
 use Rattle.text.specs.Text.{Text, Wrote}
 use Rattle.text.specs.Number.{eight_bytes}
 use Rattle.text.proofs.Runs.{drop_step}
 use Rattle.text.proofs.Spelling.{eight_bytes_length}
 use Rattle.text.proofs.Writes.{put_whole}
-use Rattle.pseudonym.specs.Pseudonym.{OFFSET, step, shift_add, fold}
-use Rattle.pseudonym.proofs.Products.{sum_is_product}
-
--- the step's sum is the product's low 64 bits
-pub step_is : (h b : ℕ) → shift_add (bit_xor h b) ≡ step h b
-unfolding step
-step_is h b = sum_is_product (bit_xor h b)
+use Rattle.pseudonym.specs.Pseudonym.{OFFSET, step, fold}
 
 -- the bytes of one text, and then those of another
 pub fold_append : (h : ℕ) (s t : Text) → fold h (s ++ t) ≡ fold (fold h s) t

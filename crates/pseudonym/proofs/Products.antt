@@ -1,7 +1,6 @@
 -- The low 64 bits of a product, from the products of 32-bit halves. Assumes nothing.
 use Rattle.std.proofs.Common.{◌≡◌, ℕ, ◌+◌, ◌*◌, ◌/◌, ◌%◌, ◌^◌, ◌<◌, sym, ap, ◌∙◌, le_of_lt, mul-le-mul_right, arith}
 use native.Mathlib.Nat.{mul-add-mod_self_right}
-use Rattle.pseudonym.specs.Pseudonym.{shift_add, SumIsProduct}
 
 -- a product of two halves fits a word
 pub halves_fit : (x y : ℕ) → x < 2 ^ 32 → y < 2 ^ 32 → x * y < 2 ^ 64
@@ -20,14 +19,3 @@ low_product a b =
     let a' : a / 2 ^ 32 * 2 ^ 32 + a % 2 ^ 32 ≡ a = omega arith in
     let b' : b / 2 ^ 32 * 2 ^ 32 + b % 2 ^ 32 ≡ b = omega arith in
     sym (mul-add-mod_self_right (a / 2 ^ 32 * (b / 2 ^ 32) + k) (2 ^ 64) _) ∙ ap (λ (n : ℕ). n % 2 ^ 64) (sym e ∙ rw (a', b'))
-
--- ---- by shift and add
-
--- the sum of two remainders, as the code makes it
-pub sum_low : (x : ℕ) → ((x * 2 ^ 40) % 2 ^ 64 + (x * 435) % 2 ^ 64) % 2 ^ 64 ≡ shift_add x
-unfolding shift_add
-sum_low x = omega arith
-
-pub sum_is_product : SumIsProduct
-unfolding shift_add
-sum_is_product x = omega arith

@@ -1,5 +1,5 @@
 -- pseudonym.rs: FNV-1a, 64 bits, and the pseudonym of a value under a key. Assumes nothing: these are definitions.
-use Rattle.std.specs.Prelude.{◌≡◌, ℕ, ◌+◌, ◌*◌, ◌%◌, ◌^◌, [], ◌∷◌, ◌++◌, bit_xor}
+use Rattle.std.specs.Prelude.{ℕ, ◌*◌, ◌%◌, ◌^◌, [], ◌∷◌, ◌++◌, bit_xor}
 use Rattle.text.specs.Text.{Text}
 use Rattle.text.specs.Number.{hexadecimal, eight_bytes}
 
@@ -13,14 +13,6 @@ PRIME = 0x100000001b3
 -- "For each byte, first xor it in, then the hash is multiplied by the prime 0x100000001b3, keeping the low 64 bits"
 unfoldable pub step : ℕ → ℕ → ℕ
 step h b = (bit_xor h b * PRIME) % 2 ^ 64
-
--- "the product becomes the hash shifted left by 40 places, plus 435 times the hash, the low 64 bits kept"
-unfoldable pub shift_add : ℕ → ℕ
-shift_add x = (x * 2 ^ 40 + 435 * x) % 2 ^ 64
-
--- "a law equates it with the product's low 64 bits"
-abbrev pub SumIsProduct : Type 0
-SumIsProduct = (x : ℕ) → shift_add x ≡ (x * PRIME) % 2 ^ 64
 
 unfoldable pub fold : ℕ → Text → ℕ
 fold h [] = h

@@ -1,15 +1,16 @@
 // Pseudonyms: stable stand-ins for identifiers, by the 64-bit FNV-1a hash of a key and a value.
 #![tactic(auto)]
-ghost use Rattle.std.specs.Prelude.{◌≡◌, ◌+◌, ◌*◌, ◌%◌, ◌^◌, ◌≤◌, length, bit_xor};
+ghost use Rattle.std.specs.Prelude.{◌≡◌, ◌+◌, ◌*◌, ◌%◌, ◌^◌, ◌≤◌, length};
 ghost use Rattle.text.specs.Text.{Wrote};
 ghost use Rattle.pseudonym.specs.Pseudonym as P;
-ghost use Rattle.pseudonym.specs.Pseudonym.{shift_add};
 
 use std::num::wrapping_add_u64;
 use text::positional::{eight_bytes_at, hexadecimal_at};
 
-// The hash of no bytes.
+// The hash of no bytes, and the number that every step multiplies by.
 pub const OFFSET: u64 = 0xcbf2_9ce4_8422_2325;
+
+pub const PRIME: u64 = 0x0000_0100_0000_01b3;
 
 // The low 64 bits of the product: the low halves' product, and the middle products' sum, shifted by half a word.
 pub fn wrapping_mul(a: u64, b: u64) -> u64
@@ -23,18 +24,11 @@ pub fn wrapping_mul(a: u64, b: u64) -> u64
     wrapping_add_u64(a_low * b_low, middle * 0x1_0000_0000)
 }
 
-// The low 64 bits of x times the prime, which is 2 to the 40th plus 435.
-fn times_prime(x: u64) -> u64
-    ensures { result ≡ shift_add x }
-{
-    wrapping_add_u64(x << 40, wrapping_mul(x, 435))
-}
-
 // One byte more.
 pub fn step(hash: u64, byte: u8) -> u64
-    ensures { result ≡ shift_add (bit_xor hash byte) }
+    ensures { result ≡ P.step hash byte }
 {
-    times_prime(hash ^ (byte as u64))
+    wrapping_mul(hash ^ (byte as u64), PRIME)
 }
 
 // The bytes of s, one after the other.
