@@ -169,15 +169,6 @@ fn forty() -> String {
     text
 }
 
-/// 40 notes of about 700 bytes, each of which becomes a pseudonym.
-fn long_values() -> (String, String) {
-    let mut text = HEAD.to_string();
-    for i in 0..40 {
-        text += &format!("NTE|{i}||set {i}: {}\r", "slow and steady, ".repeat(40).trim_end());
-    }
-    (text, "NTE-3 pseudonym\nknown-values off\n".into())
-}
-
 /// 4,096 leaves under 128 rules.
 fn many_leaves() -> (String, String) {
     let mut text = "MSH|^~\\&".to_string();
@@ -259,7 +250,6 @@ fn main() {
     let mut buffers = Buffers { output: vec![1; 49_152], report: vec![1; 65_536], scratch: vec![1; 49_152] };
     let builtin = |p: Policy| p.to_string();
     let (many, reaching) = many_leaves();
-    let (notes, hashing) = long_values();
     let (swept, sweeping) = swept();
     let cases = [
         ("a  4 OBX, six-line gym policy", log(4), GYM.to_string(), 0.30),
@@ -268,7 +258,6 @@ fn main() {
         ("d  100 OBX, 40 rules on OBX", log(100), forty(), 0.12),
         ("e  4,096 leaves, 128 rules", many, reaching, 0.20),
         ("f  sweep with 512 learnt values", swept, sweeping, 0.06),
-        ("g  pseudonyms of 40 long values", notes, hashing, 0.90),
     ];
     println!("{:46}{:>7}{:>7}{:>11}{:>11}{:>8}{:>6}{:>10}{:>12}", "microseconds per call", "bytes", "rows", "Rust", "port", "ratio", "bar", "floor", "port/floor");
     let mut met = 0;
