@@ -15,7 +15,7 @@ GOES = re.compile(r"Rattle\.\S+\.proofs\.\S+\.(Statement|Tie|Lts\S*|Reads|Kinds)
 
 
 def norm(name):
-    name = name.replace("_", "-")
+    name = name.replace("_", "-").lower()
     name = re.sub(r"^overflow-", "", name)
     return re.sub(r"-+", "-", name)
 

@@ -1,5 +1,5 @@
 -- What the contracts of private functions cite; no public contract rests on it. Assumes nothing: these are definitions.
-use Rattle.core.specs.Prelude.{◌≡◌, ℕ, ◌≤◌, length, take}
+use Rattle.std.specs.Prelude.{◌≡◌, ℕ, ◌≤◌, length, take}
 use Rattle.text.specs.Text.{Text}
 use Rattle.run_model.specs.Redact.{print_rows}
 use Rattle.run_model.specs.Entries as Model

@@ -1,5 +1,5 @@
 // Redacts a message by a policy and a key.
-ghost use Rattle.core.specs.Prelude.{◌≡◌, ℕ, ◌≤◌, length};
+ghost use Rattle.std.specs.Prelude.{◌≡◌, ℕ, ◌≤◌, length};
 ghost use Rattle.message_model.specs.Message.{message_of, message_fault};
 ghost use Rattle.policy_model.specs.Policy.{read_policy};
 ghost use Rattle.policy.specs.Policy.{as_policy, PolicyHeld};

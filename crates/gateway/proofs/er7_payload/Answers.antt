@@ -1,0 +1,5 @@
+use Rattle.gateway.proofs.Laws.{returned_text}
+use Rattle.gateway.proofs.er7_payload.Goals as goal
+
+pub returns : goal.returns
+returns c = returned_text _ _ _ c.payload-answered.ensures
