@@ -8,8 +8,7 @@ use native.Mathlib.Nat.{add-zero, sub_self}
 use native.Mathlib.Omega.{arith}
 use borrow.Author.Tests.{eq-eqb, ne_eqb}
 use lib.Dec.{eqb, leb}
-use lib.ListN.{length, take, drop, get_or, length-append, length-drop}
-use lib.Seq.{length-take-le}
+use lib.ListN.{length, take, drop, get_or, length-append}
 use Rattle.text.specs.Text.{Text, part, Wrote}
 use Rattle.text.proofs.Kept.{part_length}
 use Rattle.text.proofs.Writes.{wrote_none, wrote_length, wrote_then}

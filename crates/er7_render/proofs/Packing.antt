@@ -4,7 +4,7 @@ use mathlib.Core.Logic.{dite}
 use mathlib.Core.Bool.{Bool, true, false, cond}
 use mathlib.Core.List.{List}
 use mathlib.Core.Option.{none, some}
-use Prim.Native.Nat.{ℕ, suc, ◌+◌, ◌-◌, ◌≤◌, ◌<◌}
+use Prim.Native.Nat.{ℕ, ◌+◌, ◌-◌, ◌≤◌, ◌<◌}
 use native.Mathlib.Numerals.{add-one}
 use native.Mathlib.Omega.{arith}
 use native.Mathlib.Decide.{ℕ_discrete}
@@ -14,8 +14,7 @@ use lib.Seq.{length-take-le}
 use Rattle.text.specs.Text.{Text, part, Wrote}
 use Rattle.text.proofs.Kept.{part_length, part_kept, wrote_same, wrote_part}
 use Rattle.text.proofs.Writes.{wrote_length}
-use Rattle.message_model.specs.Message.{segment}
-use Rattle.er7_table.specs.Table.{cell, place_at, stored_text, leaf_at, leaves_from, Good, Placed, first_leaf, label_at, segment_at, segments_from, Segmented}
+use Rattle.er7_table.specs.Table.{cell, place_at, stored_text, leaf_at, Good}
 use Rattle.er7_render.specs.Stored.{TextSet, live_len, live_sum, Packed}
 use Rattle.er7_render.specs.Inner.{InStore, LeafPacked}
 use Rattle.er7_render.proofs.Laws.{part_wrote}

@@ -1,19 +1,19 @@
 -- Laws of the texts in the store. Assumes nothing.
-use mathlib.Core.Path.{◌≡◌, refl, ap, ◌∙◌}
+use mathlib.Core.Path.{◌≡◌, refl, ◌∙◌}
 use mathlib.Core.Logic.{dite}
 use mathlib.Core.Bool.{Bool, true, false, cond}
-use mathlib.Core.List.{List, ◌++◌, append_assoc}
+use mathlib.Core.List.{List}
 use mathlib.Core.Option.{none, some}
-use Prim.Native.Nat.{ℕ, ◌+◌, ◌-◌, ◌*◌, ◌≤◌, ◌<◌}
+use Prim.Native.Nat.{ℕ, ◌+◌, ◌*◌, ◌≤◌, ◌<◌}
 use native.Mathlib.Omega.{arith}
 use native.Mathlib.Decide.{ℕ_discrete}
 use borrow.Author.Tests.{eqb-true}
 use lib.Dec.{eqb}
-use lib.ListN.{length, take, drop, set, length-set}
-use lib.Seq.{get_or-set_same, get_or-set_other, take_at, drop_at, length-take-le}
+use lib.ListN.{length, set, length-set}
+use lib.Seq.{get_or-set_same, get_or-set_other}
 use Rattle.text.specs.Text.{Text, part, SameTo}
 use Rattle.text.proofs.Kept.{part_same}
-use Rattle.er7_table.specs.Table.{cell, place_at, stored_text, leaf_at, Good}
+use Rattle.er7_table.specs.Table.{cell, place_at, stored_text, Good}
 use Rattle.er7_table.proofs.Laws.{leaf_kept}
 use Rattle.er7_render.specs.Stored.{TextSet, Vanished}
 

@@ -1,4 +1,5 @@
 // Changes and prints a message that stands in its two tables.
 #![tactic(auto)]
+
 pub mod render;
 pub mod store;

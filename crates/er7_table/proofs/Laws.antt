@@ -5,9 +5,9 @@ use mathlib.Core.List.{List, [], ◌∷◌, ◌++◌}
 use Prim.Native.Nat.{ℕ, zero, suc, ◌+◌, ◌-◌, ◌≤◌, ◌<◌}
 use native.Mathlib.Nat.{add-zero}
 use native.Mathlib.Omega.{arith}
-use lib.ListN.{length, take, drop}
-use lib.Seq.{take_all, take-take, take-nil}
-use Rattle.text.specs.Text.{Text, part}
+use lib.ListN.{length, take}
+use lib.Seq.{take_all}
+use Rattle.text.specs.Text.{Text}
 use Rattle.text.proofs.Kept.{part_kept}
 use Rattle.message_model.specs.Message.{segment}
 use Rattle.er7_table.specs.Table.{cell, list_of, place_at, stored_text, leaf_at, leaves_from, Good, first_leaf, name_at, label_at, segment_at, segments_from, Segmented}

@@ -1,3 +1,4 @@
 // The tables that hold a message: its leaves and its segments.
 #![tactic(auto)]
+
 pub mod table;

@@ -1,8 +1,6 @@
 -- Places next to each other, and the delimiter between two. Assumes nothing.
 use mathlib.Core.Path.{◌≡◌, refl, sym}
 use mathlib.Core.Bool.{Bool, true, false, cond}
-use mathlib.Core.List.{List, [], ◌∷◌}
-use mathlib.Core.Option.{none, some}
 use Prim.Native.Nat.{ℕ, ◌+◌, ◌≤◌}
 use native.Mathlib.Omega.{arith}
 use borrow.Author.Tests.{eqb-true, ne_eqb}
@@ -10,7 +8,7 @@ use lib.Dec.{eqb}
 use Rattle.text.proofs.Laws.{by_cond}
 use Rattle.er7.specs.declared.message.Place.{Place}
 use Rattle.er7.specs.declared.separators.Separators.{Separators}
-use Rattle.message_model.specs.Message.{Leaf, leaf, ends_leaf, next, at_field, delimiter}
+use Rattle.message_model.specs.Message.{ends_leaf, next, at_field, delimiter}
 use Rattle.message_model.specs.Chain.{Piece, a-field, a-repetition, a-component, a-subcomponent, next_place}
 
 -- a place from which the delimiter before the next can be told

@@ -1,5 +1,5 @@
 -- The value of a leaf: null, escapes, and words in a value. Assumes nothing: these are definitions.
-use Rattle.std.specs.Prelude.{Bool, false, not, cond, ◌&&◌, ◌||◌, [], ◌∷◌, ◌++◌, ℕ, zero, suc, ◌-◌, length, drop, eqb}
+use Rattle.std.specs.Prelude.{Bool, false, not, cond, ◌&&◌, ◌||◌, [], ◌∷◌, ◌++◌, ℕ, length, drop, eqb}
 use Rattle.std.proofs.Math.Option.{Option, none, some}
 use Rattle.text.specs.Text.{Text, bytes, is_empty, same, begins}
 use Rattle.text.specs.Characters.{is_word_char, word_behind}

@@ -1,5 +1,6 @@
 // Pseudonyms: stable stand-ins for identifiers, by the 64-bit FNV-1a hash of a key and a value.
 #![tactic(auto)]
+
 ghost use Rattle.std.specs.Prelude.{◌≡◌, ◌+◌, ◌*◌, ◌%◌, ◌^◌, ◌≤◌, length};
 ghost use Rattle.text.specs.Text.{Wrote};
 ghost use Rattle.pseudonym.specs.Pseudonym as P;

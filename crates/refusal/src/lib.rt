@@ -1,5 +1,6 @@
 // The refusals of the entries, each with its number; and the bytes that a message, a policy and a payload may hold.
 #![tactic(auto)]
+
 pub mod input;
 pub mod limits;
 

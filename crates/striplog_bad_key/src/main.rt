@@ -1,5 +1,7 @@
 // striplog on a key with CR LF behind it.
 #![tactic(auto)]
-fn main() {
-    striplog_run::files::run();
+use std::io;
+
+fn main(rt: HostRuntime) -> io::Result<()> {
+    striplog_run::files::run(&rt)
 }

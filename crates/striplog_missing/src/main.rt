@@ -1,5 +1,7 @@
 // striplog without a policy.
 #![tactic(auto)]
-fn main() {
-    striplog_run::files::run();
+use std::io;
+
+fn main(rt: HostRuntime) -> io::Result<()> {
+    striplog_run::files::run(&rt)
 }

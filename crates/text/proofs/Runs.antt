@@ -7,7 +7,6 @@ use native.Mathlib.Nat.{sub_self, add-sub_cancel_left}
 use native.Mathlib.Numerals.{add-one}
 use native.Mathlib.Omega.{arith}
 use borrow.Author.Tests.{not-true}
-use lib.Dec.{eqb}
 use lib.ListN.{length, take, drop, get_or, length-append, length-take, length-drop, drop_of_length-le}
 use lib.Seq.{drop-cons, take_all, take-suc, take-take, take-add, drop_at, drop-drop, get_or-drop}
 use Rattle.text.specs.Text.{Text, run, rest, part, between, RunEnd, RunTo, all}

@@ -1,4 +1,7 @@
 // The groups of cases, and how many cases of each came out right.
+use std::io;
+use std::io::Write;
+
 use super::lines::field;
 use text::bytes::same_bytes;
 
@@ -43,32 +46,27 @@ pub fn count(tally: &mut [u64; 50], group: usize, right: bool) {
 }
 
 // Writes a group's name.
-fn print_name(fd: i32, k: usize) {
+fn print_name<W: Write>(out: &mut W, k: usize) -> io::Result<()> {
     let names = NAMES;
     let span = field(&names, k);
     let start = span.start;
     let end = span.end;
-    io::write_all(fd, &names[start..end]);
+    out.write_all(&names[start..end])
 }
 
 // Writes a group's line, if it has cases.
-fn print_group(fd: i32, k: usize, right: u64, all: u64) {
+fn print_group<W: Write>(out: &mut W, k: usize, right: u64, all: u64) -> io::Result<()> {
     if all == 0 {
-        return;
+        return Ok(());
     }
-    print_name(fd, k);
-    io::write_all(fd, b" ");
-    io::print_decimal(fd, right);
-    io::write_all(fd, b" of ");
-    io::print_decimal(fd, all);
-    io::write_all(fd, b"\n");
+    print_name(out, k)?;
+    writeln!(out, " {right} of {all}")
 }
 
 // Writes a line for each group that has cases, and one for all.
-pub fn print(fd: i32, tally: &[u64; 50]) {
-    let mut k = 0;
-    while k < 25 {
-        print_group(fd, k, tally[k * 2], tally[k * 2 + 1]);
-        k += 1;
+pub fn print<W: Write>(out: &mut W, tally: &[u64; 50]) -> io::Result<()> {
+    for k in 0..25 {
+        print_group(out, k, tally[k * 2], tally[k * 2 + 1])?;
     }
+    Ok(())
 }

@@ -11,17 +11,20 @@ mod policies;
 mod sample;
 mod values;
 
-use libc::STDOUT_FILENO;
+use files::read_full;
+use std::fs::File;
+use std::io;
+use std::rt::Files;
 
 // Room for a file.
 type Progress = [u8; 262144];
 
 // Puts the file's bytes into buf, and returns their number.
-fn load(name: &[u8], buf: &mut Progress) -> usize {
-    let fd = os::open_read(name);
-    let n = io::read_full(fd, buf);
-    libc::close(fd);
-    n
+fn load<R: Files>(rt: &R, name: &str, buf: &mut Progress) -> usize {
+    match File::open(rt, name) {
+        Ok(mut file) => read_full(&mut file, buf),
+        Err(_) => 0,
+    }
 }
 
 // The first n bytes of buf.
@@ -34,15 +37,15 @@ fn front<'a>(buf: &'a Progress, n: usize) -> &'a [u8] {
 }
 
 // Runs the cases of a file.
-fn run_file(name: &[u8], tally: &mut [u64; 50]) {
+fn run_file<R: Files>(rt: &R, name: &str, tally: &mut [u64; 50]) {
     let mut buf = [0u8; 262144];
-    let n = load(name, &mut buf);
+    let n = load(rt, name, &mut buf);
     cases::run(front(&buf, n), tally);
 }
 
-fn main() {
+fn main(rt: HostRuntime) -> io::Result<()> {
     let mut tally = [0u64; 50];
-    run_file(b"vectors.txt", &mut tally);
-    run_file(b"sample.txt", &mut tally);
-    groups::print(STDOUT_FILENO, &tally);
+    run_file(&rt, "vectors.txt", &mut tally);
+    run_file(&rt, "sample.txt", &mut tally);
+    groups::print(&mut io::writer(&rt), &tally)
 }

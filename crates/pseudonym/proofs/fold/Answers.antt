@@ -1,4 +1,4 @@
-use Rattle.std.proofs.Common.{◌-◌, arith}
+use Rattle.std.proofs.Common.{arith}
 use Rattle.pseudonym.proofs.Hashes.{folding_start, folding_more, folding_end}
 use Rattle.pseudonym.proofs.fold.Goals as goal
 

@@ -1,5 +1,4 @@
 use native.Mathlib.Omega.{arith}
-use Prim.Native.Nat.{◌-◌}
 use Rattle.calendar.proofs.Digits.{reading_start, reading_low, reading_fits, reading_more, reading_end}
 use Rattle.calendar.proofs.texts.eight_digits.Goals as goal
 

@@ -1,6 +1,5 @@
 use native.Mathlib.Omega.{arith}
 use mathlib.Core.Path.{refl}
-use Prim.Native.Nat.{◌-◌}
 use Rattle.calendar.specs.Shift.{digit, date_text}
 use Rattle.text.proofs.Spelling.{spelling_start}
 use Rattle.calendar.proofs.Digits.{spell_more, spell_end}

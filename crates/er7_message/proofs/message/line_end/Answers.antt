@@ -1,4 +1,3 @@
-use Prim.Native.Nat.{◌-◌}
 use native.Mathlib.Omega.{arith}
 use Rattle.er7_message.proofs.Lines.{running_start, running_more, running_stop, running_end}
 use Rattle.er7_message.proofs.message.line_end.Goals as goal

@@ -1,5 +1,4 @@
 use mathlib.Core.List.{[], ◌∷◌}
-use Prim.Native.Nat.{◌-◌}
 use Rattle.er7_message.proofs.Names.{Looking}
 use Rattle.er7_message.proofs.message.occurrence.Given as goal
 

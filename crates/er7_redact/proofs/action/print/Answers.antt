@@ -64,7 +64,7 @@ copy_at-k-requires-in-Shift c = omega (arith, rw c.in-Shift.is at c.requires.1)
 
 pub days_at-requires : goal.days_at-requires
 unfolding print_action as_action bytes
-days_at-requires c = 
+days_at-requires c =
     let i : to_z w64 (of_z w64 c.in-Shift.n) ≡ c.in-Shift.n = search rules in
     rw i (omega (arith, rw c.in-Shift.is at c.requires.1))
 
@@ -102,6 +102,6 @@ returns-in-Pseudonym c = rw c.in-Pseudonym.is c.copy_at-in-Pseudonym.ensures
 
 pub returns-in-Shift : goal.returns-in-Shift
 unfolding print_action as_action bytes
-returns-in-Shift c = 
+returns-in-Shift c =
     let i : to_z w64 (of_z w64 c.in-Shift.n) ≡ c.in-Shift.n = search rules in
     rw (c.in-Shift.is, ← i) (wrote_then c.copy_at-k-in-Shift.ensures c.days_at.ensures)

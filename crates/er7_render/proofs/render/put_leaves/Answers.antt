@@ -1,5 +1,4 @@
 use native.Mathlib.Omega.{arith}
-use Prim.Native.Nat.{◌-◌}
 use Rattle.er7_render.specs.Inner.{leaves_text}
 use Rattle.er7_render.proofs.Laws.{joining_start, joining_room, joining_more, joining_end, leaf_in_store}
 use Rattle.er7_render.proofs.render.put_leaves.Goals as goal

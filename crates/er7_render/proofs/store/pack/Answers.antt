@@ -1,7 +1,6 @@
 use native.Mathlib.Omega.{arith}
 use borrow.Author.Rules.{rules}
 use mathlib.Core.Path.{refl}
-use Prim.Native.Nat.{◌-◌}
 use Rattle.er7_render.proofs.Packing.{pack_start, pack_in_store, pack_room, pack_next, pack_all}
 use Rattle.er7_render.proofs.store.pack.Goals as goal
 

@@ -1,4 +1,3 @@
-use Prim.Native.Nat.{◌-◌}
 use native.Mathlib.Omega.{arith}
 use Rattle.er7_table.proofs.Reading.{running_start, running_more, running_stop, running_end}
 use Rattle.er7_table.proofs.table.leaf_end.Goals as goal

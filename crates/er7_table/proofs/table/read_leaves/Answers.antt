@@ -1,5 +1,4 @@
 use borrow.Author.Rules.{rules}
-use Prim.Native.Nat.{◌-◌}
 use native.Mathlib.Omega.{arith}
 use Rattle.er7_table.proofs.Reading.{going_start, going_full, going_last, going_next}
 use Rattle.er7_table.proofs.table.read_leaves.Goals as goal

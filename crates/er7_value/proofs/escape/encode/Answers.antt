@@ -1,5 +1,4 @@
 use native.Mathlib.Omega.{arith}
-use Prim.Native.Nat.{◌-◌}
 use Rattle.er7_value.proofs.Encoding.{encoding_start, encoding_room, encoding_more, encoding_end}
 use Rattle.er7_value.proofs.escape.encode.Goals as goal
 

@@ -1,5 +1,4 @@
 use native.Mathlib.Omega.{arith}
-use Prim.Native.Nat.{◌-◌}
 use Rattle.er7_value.proofs.Encoding.{counting_start, counting_more, counting_end}
 use Rattle.er7_value.proofs.escape.encoded_len.Goals as goal
 

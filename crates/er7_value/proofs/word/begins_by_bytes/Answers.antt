@@ -1,5 +1,4 @@
 use native.Mathlib.Omega.{arith}
-use Prim.Native.Nat.{◌-◌}
 use Rattle.er7_value.proofs.Hits.{hit_start, hit_more, hit_differs, hit_all}
 use Rattle.er7_value.proofs.word.begins_by_bytes.Goals as goal
 

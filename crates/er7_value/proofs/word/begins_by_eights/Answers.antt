@@ -1,6 +1,5 @@
 use mathlib.Core.Path.{refl, sym, ◌∙◌}
 use native.Mathlib.Omega.{arith}
-use Prim.Native.Nat.{◌-◌}
 use Rattle.er7_value.proofs.Eights.{standing_start, standing_more, eight_differ, standing_end}
 use Rattle.er7_value.proofs.word.begins_by_eights.Goals as goal
 

@@ -1,6 +1,5 @@
 use mathlib.Core.Path.{sym, ◌∙◌}
 use native.Mathlib.Omega.{arith}
-use Prim.Native.Nat.{◌-◌}
 use Rattle.er7_value.proofs.Hits.{searching_start, searching_on, searching_hit, searching_end}
 use Rattle.er7_value.proofs.word.is_whole_word.Goals as goal
 

@@ -1,5 +1,4 @@
 use native.Mathlib.Omega.{arith}
-use Prim.Native.Nat.{◌-◌}
 use Rattle.er7_value.proofs.Lowering.{lowering_start, lowering_more, lowering_end}
 use Rattle.er7_value.proofs.word.lower_part.Goals as goal
 

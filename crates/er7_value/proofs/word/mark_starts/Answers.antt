@@ -1,6 +1,5 @@
 use borrow.Author.Rules.{rules}
 use native.Mathlib.Omega.{arith}
-use Prim.Native.Nat.{◌-◌}
 use Rattle.er7_value.proofs.Starts.{marking_start, marking_more, marking_end}
 use Rattle.er7_value.proofs.word.mark_starts.Goals as goal
 

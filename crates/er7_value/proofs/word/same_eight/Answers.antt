@@ -1,5 +1,4 @@
 use native.Mathlib.Omega.{arith}
-use Prim.Native.Nat.{◌-◌}
 use Rattle.er7_value.proofs.Eights.{matching_start, matching_more, matching_end}
 use Rattle.er7_value.proofs.word.same_eight.Goals as goal
 

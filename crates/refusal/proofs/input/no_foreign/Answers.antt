@@ -1,4 +1,3 @@
-use Prim.Native.Nat.{◌-◌}
 use native.Mathlib.Omega.{arith}
 use Rattle.refusal.proofs.Foreign.{tested_none, tested_more, tested_all}
 use Rattle.refusal.proofs.input.no_foreign.Goals as goal

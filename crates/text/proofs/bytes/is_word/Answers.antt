@@ -1,5 +1,4 @@
 use mathlib.Core.Path.{◌∙◌}
-use Prim.Native.Nat.{◌-◌}
 use native.Mathlib.Omega.{arith}
 use Rattle.text.proofs.Words.{comparing_start, lower_length, word_longer, word_more, word_differs, word_all}
 use Rattle.text.proofs.bytes.is_word.Goals as goal

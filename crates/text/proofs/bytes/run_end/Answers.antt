@@ -1,7 +1,5 @@
 use mathlib.Core.Path.{sym, ◌∙◌}
-use Prim.Native.Nat.{◌-◌}
 use native.Mathlib.Omega.{arith}
-use Rattle.text.specs.Text.{is_in}
 use Rattle.text.proofs.Runs.{running_start, running_more, running_stop, running_end}
 use Rattle.text.proofs.bytes.run_end.Goals as goal
 

@@ -1,5 +1,4 @@
 use mathlib.Core.Path.{sym}
-use Prim.Native.Nat.{◌-◌}
 use native.Mathlib.Omega.{arith}
 use Rattle.text.proofs.Words.{same_longer, comparing_start, comparing_more, comparing_differs, comparing_all}
 use Rattle.text.proofs.bytes.same_bytes.Goals as goal

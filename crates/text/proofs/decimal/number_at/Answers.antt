@@ -1,5 +1,4 @@
 use mathlib.Core.Path.{sym, ◌∙◌}
-use Prim.Native.Nat.{◌-◌}
 use native.Mathlib.Omega.{arith}
 use Rattle.text.proofs.Decimals.{counting_start, counting_more, number_none_here, number_none_left, number_stops, number_ends, number_large, room_true, digit_yes, digit_no, digit_low, digit_high}
 use Rattle.text.proofs.decimal.number_at.Goals as goal

@@ -1,5 +1,4 @@
 use mathlib.Core.Path.{refl}
-use Prim.Native.Nat.{◌-◌}
 use native.Mathlib.Omega.{arith}
 use Rattle.text.specs.Number.{eight_bytes}
 use Rattle.text.proofs.Spelling.{spelling_start, spelling_more, spelling_end}

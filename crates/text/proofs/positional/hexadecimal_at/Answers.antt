@@ -1,6 +1,5 @@
-use Prim.Native.Nat.{◌-◌}
 use native.Mathlib.Omega.{arith}
-use Rattle.text.specs.Number.{hex_digit, hexadecimal}
+use Rattle.text.specs.Number.{hexadecimal}
 use Rattle.text.proofs.Spelling.{spelling_start, spelling_more, spelling_end}
 use Rattle.text.proofs.positional.hexadecimal_at.Goals as goal
 
