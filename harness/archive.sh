@@ -3,11 +3,12 @@
 set -eu
 cd "$(dirname "$0")/.."
 archive=target/staticlib/libgateway.a
-if [ -f "$archive" ] && [ -z "$(find crates crates.txt -newer "$archive" -print -quit)" ]; then
+if [ -f "$archive" ] && [ -z "$(find crates crates.txt -path '*/out' -prune -o -newer "$archive" -print -quit)" ]; then
     exit 0
 fi
-mkdir -p target/harness
-rt staticlib gateway >target/harness/staticlib.log 2>&1 || {
+mkdir -p target/harness target/staticlib
+(cd crates/gateway && rt lib) >target/harness/staticlib.log 2>&1 || {
     cat target/harness/staticlib.log
     exit 1
 }
+cp crates/gateway/out/libgateway.a "$archive"

@@ -3,11 +3,7 @@
 set -eu
 cd "$(dirname "$0")/.."
 bash harness/archive.sh
-mkdir -p target/harness
-rt check striplog >target/harness/striplog.log 2>&1 || {
-    cat target/harness/striplog.log
-    exit 1
-}
+bash harness/striplog.sh
 gcc -std=c11 -Wall -Wextra -Werror -I crates/gateway/include example/gateway.c target/staticlib/libgateway.a -o target/harness/example
 cd example
 for program in ../target/bin/striplog ../target/harness/example; do

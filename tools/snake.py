@@ -13,7 +13,7 @@ import tempfile
 
 NAME = r"[^\s(){}.;,@\"«»\[\]\\`:⌜⌝]+"
 TOKEN = re.compile(r"--[^\n]*|\"(?:[^\"\\]|\\.)*\"|" + NAME)
-DECLARED = re.compile(r"^( *)(?:(abbrev|unfoldable) )?(?:pub )?((?:data|record) )?(" + NAME + r")((?: +[({][^\n]*[)}])?) : ([^\n]*)", re.M)
+DECLARED = re.compile(r"^( *)(?:(abbrev|unfoldable) )?(?:pub )?((?:data|record) )?(" + NAME + r")((?: +[({][^\n]*[)}])?) :(?: ([^\n]*))?$", re.M)
 USED = re.compile(r"^(?:ghost )?use ([^\s{]+)\.\{([^}]*)\}", re.M)
 # Words of antt, of a clause and of a tactic.
 TAKEN = set("first_of search simp grind omega assumption cc hlevel rw let in elim use pub open record data abbrev unfoldable unfolding module result absurd tt is end at".split())
@@ -47,12 +47,17 @@ def own(top=""):
     for f in laws(top):
         for m in DECLARED.finditer(read(f)):
             name = m[4]
-            if name.startswith("--") or re.match(r"(tie|goal)\.", m[6].lstrip()):
+            if name.startswith("--") or re.match(r"(tie|goal)\.", (m[6] or "").lstrip()):
                 continue
             found[name] += 1
             if m[1] and not m[2]:
                 fields.add(name)
             if "/specs/" in f or m[2]:
+                definitions.add(name)
+        for m in re.finditer(r"^ +((?:" + NAME + r" )+" + NAME + r") : [A-Z]\w*$", read(f), re.M):
+            for name in m[1].split():
+                found[name] += 1
+                fields.add(name)
                 definitions.add(name)
     return found, fields, definitions
 

@@ -1,7 +1,7 @@
 /*
  * er7_redact.h - the five entries of the redactor of HL7 v2 messages (ER7 text), for C.
  *
- * Link with libgateway.a (`rt staticlib gateway` writes it to target/staticlib/; x86-64 Linux).
+ * Link with libgateway.a (`bash harness/archive.sh` writes it to target/staticlib/; x86-64 Linux).
  *
  * What is lent. Every byte slice is a pointer and a length. NULL with length 0 is an empty slice. A slice that is read (message,
  * policy, first, second, payload) may overlap another that is read. What is written (output, report, scratch and the numbers behind

@@ -1,5 +1,6 @@
 // The entries for C: thin over the library, which does the work. Each slice is a pointer and a length.
 #![tactic(auto)]
+
 ghost use Rattle.std.specs.Prelude.{◌≡◌, length};
 ghost use Rattle.run_model.specs.Entries.{redact_outcome, print_outcome, append_outcome, builtin_outcome, payload_outcome};
 ghost use Rattle.entries.specs.Returned.{lent, lent_report};

@@ -15,7 +15,7 @@ use Rattle.er7.specs.declared.separators.Separators.{Separators}
 use Rattle.message_model.specs.Message.{Leaf, leaf, Label, Segment, segment, is_header_name, separators_of, head_of, message_lines, ends_leaf, next, leaves, leaves_behind, at_field, header_leaves, leaves_of, count, segments, message_of, segments_fault, message_fault}
 use Rattle.message_model.proofs.Places.{piece_of, next_piece}
 use Rattle.message_model.proofs.Faultless.{HeaderLine, header_line, named_line, faultless_lines, faultless, separators_are, segments_are}
-use Rattle.message_model.specs.Chain.{Piece, a-field, next_place, Chain, Chained}
+use Rattle.message_model.specs.Chain.{Piece, a_field, next_place, Chain, Chained}
 
 -- ---- the header
 
@@ -84,7 +84,7 @@ module _ (s : Separators) where
   unfolding leaves_of header_leaves
   line_chains l =
       by_cond (Chain (at_field 0)) (is_header_name (take 3 l)) _ _
-      (λ _. ((a-field, unfold at_field in refl), ((a-field, unfold at_field in refl), behind_chains (drop 8 l) (at_field 2))))
+      (λ _. ((a_field, unfold at_field in refl), ((a_field, unfold at_field in refl), behind_chains (drop 8 l) (at_field 2))))
       (λ _. behind_chains (drop 3 l) (at_field 0))
 
   pub segments_chain : (seen ls : List Text) → Chained (segments s seen ls)

@@ -17,7 +17,7 @@ use Rattle.er7.specs.declared.separators.Separators.{Separators}
 use Rattle.message_model.specs.Message.{Leaf, leaf, Label, segment, is_header_name, separators_of, is_header, ends_in_cr, without_last_cr, segment_lines, ends_leaf, next, leaves, leaves_behind, at_field, header_leaves, leaves_of, is_named, count, segments, message_of, segments_fault, message_fault, touchable, delimiter, lead, print_leaves, print_segments, print_message}
 use Rattle.message_model.proofs.Places.{Positive, positive_field, positive_next, piece_of, next_piece, delimiter_next}
 use Rattle.message_model.proofs.Faultless.{five_bytes, header_line, named_line, faultless_lines, Lines, lines, faultless, separators_are, segments_are, last_is, no_segments, lines_are}
-use Rattle.message_model.specs.Chain.{Piece, a-field, a-repetition, a-component, a-subcomponent, next_place}
+use Rattle.message_model.specs.Chain.{Piece, a_field, a_repetition, a_component, a_subcomponent, next_place}
 
 -- ---- leaves
 
@@ -35,10 +35,10 @@ may_touch g p o = go (is_header_name g.name) _ (λ e. lt-leb p.field _ (omega (a
     go false b h = refl
 
 field_step : (k : Piece) (p : Place) → p.field ≤ (next_place k p).field
-field_step a-field p = omega arith
-field_step a-repetition p = omega arith
-field_step a-component p = omega arith
-field_step a-subcomponent p = omega arith
+field_step a_field p = omega arith
+field_step a_repetition p = omega arith
+field_step a_component p = omega arith
+field_step a_subcomponent p = omega arith
 
 field_next : (s : Separators) (x : ℕ) (p : Place) → p.field ≤ (next s x p).field
 field_next s x p = rw (next_piece s x p) (field_step (piece_of s x) p)

@@ -6,14 +6,14 @@ use Rattle.message_model.specs.Message.{Leaf, leaf, Segment, segment, at_field}
 
 -- what a delimiter begins
 pub data Piece : Type 0 where
-  a-field a-repetition a-component a-subcomponent : Piece
+  a_field a_repetition a_component a_subcomponent : Piece
 
 -- where the first leaf of the next piece stands, behind a leaf at p
 abbrev pub next_place : Piece → Place → Place
-next_place a-field p = record { field = p.field + 1; repetition = 1; component = 1; subcomponent = 1 }
-next_place a-repetition p = record { field = p.field; repetition = p.repetition + 1; component = 1; subcomponent = 1 }
-next_place a-component p = record { field = p.field; repetition = p.repetition; component = p.component + 1; subcomponent = 1 }
-next_place a-subcomponent p = record { field = p.field; repetition = p.repetition; component = p.component; subcomponent = p.subcomponent + 1 }
+next_place a_field p = record { field = p.field + 1; repetition = 1; component = 1; subcomponent = 1 }
+next_place a_repetition p = record { field = p.field; repetition = p.repetition + 1; component = 1; subcomponent = 1 }
+next_place a_component p = record { field = p.field; repetition = p.repetition; component = p.component + 1; subcomponent = 1 }
+next_place a_subcomponent p = record { field = p.field; repetition = p.repetition; component = p.component; subcomponent = p.subcomponent + 1 }
 
 -- each leaf that has not vanished stands next to the one before it, the first next to p
 abbrev pub Chain : Place → List Leaf → Type 0

@@ -14,7 +14,7 @@ use Rattle.er7_redact.specs.Policy.{as_rule, as_posture}
 use Rattle.er7_redact.specs.declared.policy.Rule.{Rule as HeldRule}
 use Rattle.er7_redact.specs.declared.policy.Posture.{Posture as HeldPosture}
 use Rattle.er7_redact.specs.declared.policy.Posture.TheVariants as Postures
-use Rattle.policy_model.specs.Policy.{Unrecognised, pass, refuse, apply, LineRead, nothing, rule, posture, unrecognised, sweep, wrong, LineKind, accept-kind, reject-kind, unrecognised-kind, known-values-kind, star-kind, path-kind, rejecting, applying}
+use Rattle.policy_model.specs.Policy.{Unrecognised, pass, refuse, apply, LineRead, nothing, rule, posture, unrecognised, sweep, wrong, LineKind, accept_kind, reject_kind, unrecognised_kind, known_values_kind, star_kind, path_kind, rejecting, applying}
 use Rattle.policy.specs.declared.line.Unrecognised.{Unrecognised as HeldUnrecognised}
 use Rattle.policy.specs.declared.line.Unrecognised.TheVariants as Held
 use Rattle.policy.specs.declared.line.LineRead.{LineRead as HeldLine}
@@ -23,12 +23,12 @@ use Rattle.policy.specs.declared.line.LineKind.{LineKind as HeldLineKind}
 use Rattle.policy.specs.declared.line.LineKind.TheVariants as LineKinds
 
 unfoldable pub as_line_kind : HeldLineKind → LineKind
-as_line_kind LineKinds.Accept = accept-kind
-as_line_kind LineKinds.Reject = reject-kind
-as_line_kind LineKinds.Unrecognised = unrecognised-kind
-as_line_kind LineKinds.KnownValues = known-values-kind
-as_line_kind LineKinds.Star = star-kind
-as_line_kind LineKinds.Path = path-kind
+as_line_kind LineKinds.Accept = accept_kind
+as_line_kind LineKinds.Reject = reject_kind
+as_line_kind LineKinds.Unrecognised = unrecognised_kind
+as_line_kind LineKinds.KnownValues = known_values_kind
+as_line_kind LineKinds.Star = star_kind
+as_line_kind LineKinds.Path = path_kind
 
 -- ---- what an enum stands for in the policy's text t
 

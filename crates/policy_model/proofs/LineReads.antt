@@ -10,7 +10,7 @@ use Rattle.er7.specs.Path.{read_path, print_path}
 use Rattle.er7_redact.specs.Action.{Action, is_action, keep, clear, null, pseudonym, replace, mask, first, last, shift, is_keep, is_null_action, read_action, print_action}
 use Rattle.er7_redact.specs.Policy.{Rule, Posture, accept, reject}
 use Rattle.refusal.specs.Refusal.{is_plain}
-use Rattle.policy_model.specs.Policy.{Unrecognised, pass, refuse, apply, rejecting, applying, LineRead, path-kind, line_kind, with_action, read_accept, read_reject, read_unrecognised, read_known_values, with_path, read_rule, read_directive, judged, read_words, not_cr, not_hash, read_line, gap, column, rule_line, posture_line, unrecognised_text, sweep_text}
+use Rattle.policy_model.specs.Policy.{Unrecognised, pass, refuse, apply, rejecting, applying, LineRead, path_kind, line_kind, with_action, read_accept, read_reject, read_unrecognised, read_known_values, with_path, read_rule, read_directive, judged, read_words, not_cr, not_hash, read_line, gap, column, rule_line, posture_line, unrecognised_text, sweep_text}
 use Rattle.policy_model.proofs.Bytes.{is_line_byte, is_word_byte}
 use Rattle.policy_model.proofs.Columns.{GoodWord, GoodRest, GoodLine, word_rest, column_reads, column_good}
 
@@ -24,7 +24,7 @@ pub record GoodAction (a : Action) : Type 0 where
 pub record GoodRule (r : Rule) : Type 0 where
   pub word_good : GoodWord (print_path r.path)
   pub path_back : read_path (print_path r.path) ≡ some r.path
-  pub no_directive : line_kind (print_path r.path) ≡ path-kind
+  pub no_directive : line_kind (print_path r.path) ≡ path_kind
   pub action_good : GoodAction r.action
 
 module _ (k : ℕ) (r : Rule) (h : k ≤ 64) (g : GoodRule r) where

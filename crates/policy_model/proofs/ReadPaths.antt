@@ -17,7 +17,7 @@ use Rattle.er7.specs.Path.{Path, in_brackets, behind, print_path}
 use Rattle.er7.proofs.PrintedPaths.{brackets_none, brackets_some, behind_none, behind_some}
 use Rattle.er7.proofs.PathReadBack.{GoodPath, PathFrom}
 use Rattle.refusal.specs.Refusal.{is_plain}
-use Rattle.policy_model.specs.Policy.{path-kind, line_kind, not_hash}
+use Rattle.policy_model.specs.Policy.{path_kind, line_kind, not_hash}
 use Rattle.policy_model.proofs.Texts.{all_implies, full_append}
 use Rattle.policy_model.proofs.Bytes.{is_line_byte, is_word_byte, alphanumeric_word, decimal_word}
 use Rattle.policy_model.proofs.Columns.{GoodWord}
@@ -88,7 +88,7 @@ no_word s w h k = go (is_word s w) refl
     go true e = unfold is_word in clash (sym h ∙ sym (has_lower s) ∙ ap has_digit (same_eq (lower s) w e) ∙ k)
     go false e = e
 
-digit_line_kind : (s : Text) → has_digit s ≡ true → line_kind s ≡ path-kind
+digit_line_kind : (s : Text) → has_digit s ≡ true → line_kind s ≡ path_kind
 unfolding line_kind bytes has_digit is_digit
 digit_line_kind s h = rw (
   no_word s (bytes "accept") h refl,
@@ -117,7 +117,7 @@ alone p g a b = rw (
   append-nil,
 )
 
-pub path_no_directive : (w : Text) (p : Path) → PathFrom w p → line_kind w ≡ path-kind → line_kind (print_path p) ≡ path-kind
+pub path_no_directive : (w : Text) (p : Path) → PathFrom w p → line_kind w ≡ path_kind → line_kind (print_path p) ≡ path_kind
 path_no_directive w p f h = zero_or p.occurrence
     (λ a. zero_or p.field
     (λ b. rw (alone p f.good a b, f.alone a b) h)

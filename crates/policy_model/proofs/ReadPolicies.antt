@@ -20,7 +20,7 @@ use Rattle.er7_redact.specs.Policy.{accept, reject}
 use Rattle.refusal.specs.Refusal.{too_long, is_plain, no_foreign, is_allowed, begins_in_lf}
 use Rattle.refusal.specs.declared.input.Input.TheVariants as Inputs
 use Rattle.refusal.specs.Limits.{RULES_MAX}
-use Rattle.policy_model.specs.Policy.{pass, apply, Policy, start, rejecting, applying, LineRead, nothing, wrong, LineKind, accept-kind, reject-kind, unrecognised-kind, known-values-kind, star-kind, path-kind, line_kind, with_action, read_accept, read_reject, read_unrecognised, read_known_values, with_path, read_rule, read_directive, judged, read_words, not_cr, not_hash, read_line, push, policy_lines, PolicyRead, read, refused, with_rules, after_line, read_lines, read_policy}
+use Rattle.policy_model.specs.Policy.{pass, apply, Policy, start, rejecting, applying, LineRead, nothing, wrong, LineKind, accept_kind, reject_kind, unrecognised_kind, known_values_kind, star_kind, path_kind, line_kind, with_action, read_accept, read_reject, read_unrecognised, read_known_values, with_path, read_rule, read_directive, judged, read_words, not_cr, not_hash, read_line, push, policy_lines, PolicyRead, read, refused, with_rules, after_line, read_lines, read_policy}
 use Rattle.policy_model.proofs.Texts.{Every, none_left, one_more, every_append, all_rest, all_trim, run_both, ends_trim, stop_trim}
 use Rattle.policy_model.proofs.Bytes.{is_line_byte}
 use Rattle.policy_model.proofs.Columns.{Trimmed}
@@ -53,7 +53,7 @@ module _ (a : Action) (g : GoodAction a) where
   unfolding applying
   applying_good = by_cond GoodUnrecognised (is_keep a || is_null_action a) pass (apply a) (λ e. good_pass) (λ e. good_apply g e)
 
-  path_reads : (w : Text) → length w ≤ 64 → line_kind w ≡ path-kind → GoodLineRead (with_path a (read_path w))
+  path_reads : (w : Text) → length w ≤ 64 → line_kind w ≡ path_kind → GoodLineRead (with_path a (read_path w))
   path_reads w l h = go (read_path w) refl (path_from w)
     where
       go : (o : Option Path) → read_path w ≡ o → Maybe (PathFrom w) o → GoodLineRead (with_path a o)
@@ -71,20 +71,20 @@ module _ (w s : Text) (g : Trimmed s) (lw : length w ≤ 64) (ls : length s ≤ 
 
   reads_good : (h : LineKind) → line_kind w ≡ h → GoodLineRead (read_directive h w s)
   unfolding read_directive read_accept read_reject read_unrecognised read_known_values read_rule is_keep kind
-  reads_good accept-kind e = by_cond GoodLineRead (is_empty s) _ _ (λ e. good_accept) (λ e. tt)
-  reads_good reject-kind e =
+  reads_good accept_kind e = by_cond GoodLineRead (is_empty s) _ _ (λ e. good_accept) (λ e. tt)
+  reads_good reject_kind e =
       by_cond GoodLineRead (is_empty s) _ _ (λ e. good_reject redacted_good refl) λ e.
       with_action_lem (λ a. LineRead.posture (rejecting a)) rejecting_good
-  reads_good unrecognised-kind e =
+  reads_good unrecognised_kind e =
       by_cond GoodLineRead (is_empty s) _ _ (λ e. tt) λ e.
       by_cond GoodLineRead (is_word s (bytes "refuse")) _ _ (λ e. good_refuse) λ e.
       by_cond GoodLineRead (is_word s (bytes "pass")) _ _ (λ e. good_pass) λ e.
       with_action_lem (λ a. LineRead.unrecognised (applying a)) applying_good
-  reads_good known-values-kind e =
+  reads_good known_values_kind e =
       by_cond GoodLineRead (is_word s (bytes "on")) _ _ (λ e. tt) λ e.
       by_cond GoodLineRead (is_word s (bytes "off")) _ _ (λ e. tt) (λ e. tt)
-  reads_good star-kind e = tt
-  reads_good path-kind e = with_action_lem (λ a. with_path a (read_path w)) (λ a h. path_reads a h w lw e)
+  reads_good star_kind e = tt
+  reads_good path_kind e = with_action_lem (λ a. with_path a (read_path w)) (λ a h. path_reads a h w lw e)
 
 or_left : (a b : Bool) → a || b ≡ false → a ≡ false
 or_left true b e = e

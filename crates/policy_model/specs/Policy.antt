@@ -49,15 +49,15 @@ pub data LineRead : Type 0 where
 -- "The first word picks a directive (`accept`, `reject`, `unrecognised` or `unrecognized`, `Known-values`, case ignored), else
 -- a path"; "first word `*`" is none of them
 pub data LineKind : Type 0 where
-  accept-kind reject-kind unrecognised-kind known-values-kind star-kind path-kind : LineKind
+  accept_kind reject_kind unrecognised_kind known_values_kind star_kind path_kind : LineKind
 
 unfoldable pub line_kind : Text → LineKind
 line_kind w =
-    cond (is_word w (bytes "accept")) accept-kind
-    (cond (is_word w (bytes "reject")) reject-kind
-    (cond (is_word w (bytes "unrecognised") || is_word w (bytes "unrecognized")) unrecognised-kind
-    (cond (is_word w (bytes "known-values")) known-values-kind
-    (cond (is_word w (bytes "*")) star-kind path-kind))))
+    cond (is_word w (bytes "accept")) accept_kind
+    (cond (is_word w (bytes "reject")) reject_kind
+    (cond (is_word w (bytes "unrecognised") || is_word w (bytes "unrecognized")) unrecognised_kind
+    (cond (is_word w (bytes "known-values")) known_values_kind
+    (cond (is_word w (bytes "*")) star_kind path_kind))))
 
 -- "missing or unreadable, in a rule or directive"
 unfoldable pub with_action : ActionRead → (Action → LineRead) → LineRead
@@ -96,12 +96,12 @@ read_rule w s = with_action (read_action s) λ a. with_path a (read_path w)
 
 -- a line's first word and the rest
 unfoldable pub read_directive : LineKind → Text → Text → LineRead
-read_directive accept-kind w s = read_accept s
-read_directive reject-kind w s = read_reject s
-read_directive unrecognised-kind w s = read_unrecognised s
-read_directive known-values-kind w s = read_known_values s
-read_directive star-kind w s = wrong BadDirective
-read_directive path-kind w s = read_rule w s
+read_directive accept_kind w s = read_accept s
+read_directive reject_kind w s = read_reject s
+read_directive unrecognised_kind w s = read_unrecognised s
+read_directive known_values_kind w s = read_known_values s
+read_directive star_kind w s = wrong BadDirective
+read_directive path_kind w s = read_rule w s
 
 -- "first word over 64, rest over 80"
 unfoldable pub judged : Text → Text → LineRead

@@ -1,23 +1,21 @@
 -- Laws of a printed policy's parts. Assumes nothing.
 use mathlib.Core.Path.{◌≡◌, refl, sym, ap, ◌∙◌}
 use mathlib.Core.Bool.{true, false}
-use mathlib.Core.List.{List, [], ◌∷◌, ◌++◌, map, map-append, append_assoc}
+use mathlib.Core.List.{List, [], ◌∷◌, ◌++◌, append_assoc}
 use Prim.Native.Nat.{ℕ, suc, ◌+◌, ◌-◌, ◌≤◌, ◌<◌, max}
-use native.Mathlib.Numerals.{add-one}
 use native.Mathlib.Omega.{arith}
 use borrow.Author.Tests.{ne_eqb, eq-eqb}
-use lib.ListN.{length, take, drop, get_or, replicate, length-append, length-replicate}
-use lib.Seq.{take-suc, take-add}
+use lib.ListN.{length, get_or, replicate, length-append, length-replicate}
 use Rattle.text.specs.Text.{Text, bytes, Wrote}
 use Rattle.text.proofs.Writes.{wrote_none, wrote_then, wrote_length}
 use Rattle.er7.specs.Path.{print_path}
 use Rattle.er7_redact.specs.Action.{Action, print_action, as_action}
-use Rattle.er7_redact.specs.Policy.{Rule, accept, reject, as_rule, as_posture}
+use Rattle.er7_redact.specs.Policy.{Rule, reject, as_rule, as_posture}
 use Rattle.er7_redact.specs.declared.action.Action.{Action as HeldAction}
 use Rattle.er7_redact.specs.declared.policy.Rule.{Rule as HeldRule}
 use Rattle.er7_redact.specs.declared.policy.Posture.{Posture as HeldPosture}
 use Rattle.er7_redact.specs.declared.policy.Posture.TheVariants as Postures
-use Rattle.policy_model.specs.Policy.{Unrecognised, pass, refuse, width, gap, column, rule_line, rule_lines, posture_line, unrecognised_text, sweep_text, joined}
+use Rattle.policy_model.specs.Policy.{Unrecognised, width, gap, column, rule_line, rule_lines, posture_line, unrecognised_text, sweep_text, joined}
 use Rattle.policy.specs.declared.line.Unrecognised.{Unrecognised as HeldUnrecognised}
 use Rattle.policy.specs.declared.line.Unrecognised.TheVariants as Held
 use Rattle.policy.specs.Line.{as_unrecognised}

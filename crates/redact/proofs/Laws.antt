@@ -17,7 +17,6 @@ use Rattle.message_model.proofs.PrintBack.{message_prints}
 use Rattle.message_model.proofs.Messages.{message_chains}
 use Rattle.policy_model.specs.Policy as Q
 use Rattle.policy_model.specs.Policy.{Policy, PolicyRead, read, read_policy}
-use Rattle.run_model.specs.Redact as R
 use Rattle.run_model.specs.Redact.{redact, redact_from, print_rows}
 use Rattle.run_model.specs.Entries.{Answer, done, refused, Redaction, RedactOutcome, outcome_with_report, with_policy, without_fault, reported, with_buffers, is_short}
 use Rattle.run_model.proofs.Chains.{message_fields_first}

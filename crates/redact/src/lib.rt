@@ -1,3 +1,4 @@
 // The entry redact.
 #![tactic(auto)]
+
 pub mod redact;

@@ -20,7 +20,7 @@ use Rattle.message_model.specs.Value.{is_empty_or_null}
 use Rattle.policy_model.specs.Policy.{Policy}
 use Rattle.policy.specs.Policy.{as_policy, PolicyHeld}
 use Rattle.policy.specs.declared.policy.Policy.{Policy as HeldPolicy}
-use Rattle.run_model.specs.Redact.{Progress, stopped, known_in, after_events, over_leaves, over_segments, leaves_events, segments_events, longest_found, action_in, for_sweep}
+use Rattle.run_model.specs.Redact.{Progress, stopped, known_in, after_events, over_segments, segments_events, longest_found, action_in, for_sweep}
 use Rattle.run_model.proofs.Chains.{cond_both}
 use Rattle.redact_5_act.specs.Known.{known_from}
 use Rattle.redact_5_act.specs.declared.state.Setting.{Setting}

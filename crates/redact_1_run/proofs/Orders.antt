@@ -10,7 +10,7 @@ use Rattle.text.specs.Text.{Text}
 use Rattle.text.proofs.Laws.{split}
 use Rattle.er7.specs.declared.message.Place.{Place}
 use Rattle.message_model.specs.Message.{Leaf, leaf, Label, at_field}
-use Rattle.message_model.specs.Chain.{Piece, a-field, a-repetition, a-component, a-subcomponent, next_place, Chain, Chained}
+use Rattle.message_model.specs.Chain.{Piece, a_field, a_repetition, a_component, a_subcomponent, next_place, Chain, Chained}
 use Rattle.er7_table.specs.Table.{cell, list_of, place_at, stored_text, leaf_at, first_leaf, label_at}
 use Rattle.redact_4_leaf.specs.Walk.{segment_of}
 use Rattle.redact_4_leaf.specs.State.{Buffers, leaves, marked}
@@ -26,16 +26,16 @@ record Stepped (p q : Place) (o : Option Text) (xs : List Leaf) : Type 0 where
   live : (t : Text) → o ≡ some t → place ≡ q
 
 step_low : (k : Piece) (p : Place) → p.field ≤ (next_place k p).field
-step_low a-field p = omega arith
-step_low a-repetition p = omega arith
-step_low a-component p = omega arith
-step_low a-subcomponent p = omega arith
+step_low a_field p = omega arith
+step_low a_repetition p = omega arith
+step_low a_component p = omega arith
+step_low a_subcomponent p = omega arith
 
 step_high : (k : Piece) (p : Place) → (next_place k p).field ≤ p.field + 1
-step_high a-field p = omega arith
-step_high a-repetition p = omega arith
-step_high a-component p = omega arith
-step_high a-subcomponent p = omega arith
+step_high a_field p = omega arith
+step_high a_repetition p = omega arith
+step_high a_component p = omega arith
+step_high a_subcomponent p = omega arith
 
 stepped : (p q : Place) (b : Bool) (o : Option Text) (xs : List Leaf) → Chain p (leaf q b o ∷ xs) → Stepped p q o xs
 stepped p q b none xs c = record { place = p; low = omega arith; high = omega arith; rest = c; live = λ t e. let z : ◌≡◌ {A = ℕ} 0 1 = cc in absurd (omega arith) }

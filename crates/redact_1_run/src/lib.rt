@@ -1,4 +1,5 @@
 // One message, redacted.
 #![tactic(auto)]
+
 pub mod core;
 pub mod run;

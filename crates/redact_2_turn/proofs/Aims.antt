@@ -18,7 +18,7 @@ use Rattle.er7.specs.declared.path.Path.{Path as HeldPath}
 use Rattle.er7_redact.specs.Policy.{as_rule}
 use Rattle.er7_redact.specs.declared.policy.Rule.{Rule as HeldRule}
 use Rattle.message_model.specs.Message.{Label, touchable}
-use Rattle.run_model.specs.Redact.{fits, covers, is_unnamed}
+use Rattle.run_model.specs.Redact.{fits, covers}
 use Rattle.er7_table.specs.Table.{cell, place_at, name_at, label_at}
 use Rattle.redact_6_row.specs.Reach.{reaches_place}
 use Rattle.redact_6_row.proofs.Reaches.{covers_steps}

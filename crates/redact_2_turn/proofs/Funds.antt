@@ -1,20 +1,15 @@
 -- Laws of the room that a pass needs. Assumes nothing.
-use mathlib.Core.Path.{◌≡◌, refl}
+use mathlib.Core.Path.{◌≡◌}
 use mathlib.Core.Bool.{Bool, true, false}
 use mathlib.Core.List.{List}
-use Prim.Native.Nat.{ℕ, zero, suc, ◌+◌, ◌-◌, ◌≤◌, ◌<◌}
+use Prim.Native.Nat.{ℕ, suc, ◌+◌, ◌-◌, ◌≤◌, ◌<◌}
 use native.Mathlib.Omega.{arith}
 use Rattle.text.specs.Text.{Text}
-use Rattle.run_model.specs.Redact.{Known}
 use Rattle.er7_table.specs.Table.{cell}
 use Rattle.er7_render.specs.Stored.{live_len}
 use Rattle.er7_render.proofs.Sums.{sum_same, sum_step, sum_parts}
-use Rattle.redact_5_act.specs.declared.state.Setting.{Setting}
 use Rattle.redact_5_act.specs.declared.state.Counters.{Counters}
-use Rattle.redact_4_leaf.specs.Walk.{Pass}
 use Rattle.redact_4_leaf.specs.State.{Buffers, Held, Ready, NodeReady, RoomLeft}
-use Rattle.redact_4_leaf.specs.Visit.{Visited}
-use Rattle.redact_4_leaf.specs.declared.leaf.Spot.{Spot}
 use Rattle.redact_4_leaf.proofs.Acting.{live_length}
 use Rattle.refusal.specs.Limits.{TEXT_MAX}
 

@@ -1,14 +1,13 @@
 -- Laws of the leaves and segments that a turn passes by. Assumes nothing.
-use mathlib.Core.Path.{◌≡◌, refl, sym, ap, ◌∙◌}
+use mathlib.Core.Path.{◌≡◌, refl, sym, ap}
 use mathlib.Core.Bool.{Bool, true, false, not, ◌&&◌, ◌||◌}
-use mathlib.Core.List.{List, [], ◌∷◌}
-use mathlib.Core.Option.{none, some}
-use Prim.Native.Nat.{ℕ, ◌+◌, ◌-◌, ◌≤◌, ◌<◌}
+use mathlib.Core.List.{List, []}
+use mathlib.Core.Option.{none}
+use Prim.Native.Nat.{ℕ, ◌+◌, ◌≤◌, ◌<◌}
 use native.Mathlib.Omega.{arith}
 use borrow.Author.Count.{below_more}
 use borrow.Author.Tests.{eqb-true, eqb-false, ne_eqb, ltb-true, not-true}
 use lib.Dec.{eqb, ltb}
-use Rattle.text.specs.Text.{Text}
 use Rattle.text.proofs.Laws.{split, zero_or, and_false, and_left, and_right}
 use Rattle.er7.specs.Path.{as_path}
 use Rattle.er7.specs.declared.message.Place.{Place}

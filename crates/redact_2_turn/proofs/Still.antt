@@ -6,13 +6,12 @@ use mathlib.Core.Option.{Option, none, some}
 use Prim.Native.Nat.{ℕ}
 use borrow.Author.Tests.{eqb-true, not-false}
 use lib.Dec.{eqb}
-use lib.ListN.{take}
 use Rattle.text.specs.Text.{Text, part, is_empty}
 use Rattle.text.proofs.Laws.{clash, or_id}
-use Rattle.er7.specs.Path.{as_path, PathHeld}
+use Rattle.er7.specs.Path.{as_path}
 use Rattle.er7.specs.declared.message.Place.{Place}
 use Rattle.er7.specs.declared.separators.Separators.{Separators}
-use Rattle.er7_redact.specs.Action.{Action, as_action, is_null_action, ActionHeld}
+use Rattle.er7_redact.specs.Action.{Action, as_action, is_null_action}
 use Rattle.er7_redact.specs.Policy.{Rule, as_rule, reject}
 use Rattle.er7_redact.specs.declared.policy.Rule.{Rule as HeldRule}
 use Rattle.message_model.specs.Message.{Leaf, leaf, Label, touchable}
@@ -23,7 +22,6 @@ use Rattle.redact_6_row.specs.Reach.{reaches_place}
 use Rattle.redact_4_leaf.specs.Walk.{Pass}
 use Rattle.redact_4_leaf.specs.State.{text_in}
 use Rattle.redact_4_leaf.specs.Visit.{rule_pass, unnamed_pass}
-use Rattle.redact_4_leaf.proofs.Acting.{live_text}
 use Rattle.redact_4_leaf.proofs.Unnamed.{pick_none}
 use Rattle.redact_2_turn.specs.Turn.{pass_of, aim_at, aim_of, aim_unnamed, enters, is_touched, works, TurnHeld}
 use Rattle.redact_2_turn.specs.declared.turn.Turn.{Turn}

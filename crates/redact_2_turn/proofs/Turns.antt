@@ -1,6 +1,6 @@
 -- Laws of a turn under way: over the leaves of a segment, and over segments. Assumes nothing.
-use mathlib.Core.Path.{◌≡◌, refl, sym, ap, subst, ◌∙◌}
-use mathlib.Core.Bool.{Bool, true, false}
+use mathlib.Core.Path.{◌≡◌, refl, sym, ap, ◌∙◌}
+use mathlib.Core.Bool.{Bool}
 use mathlib.Core.List.{List, [], ◌∷◌, append-nil}
 use Prim.Native.Nat.{ℕ, zero, suc, ◌+◌, ◌-◌, ◌≤◌, ◌<◌}
 use native.Mathlib.Nat.{sub_self}
@@ -23,7 +23,7 @@ use Rattle.redact_4_leaf.specs.State.{Buffers, leaves, knowing, RecordedIn, Held
 use Rattle.redact_4_leaf.specs.Visit.{said_of, Visited, VisitedOr, Visit}
 use Rattle.redact_4_leaf.specs.declared.leaf.Spot.{Spot}
 use Rattle.redact_4_leaf.proofs.Walks.{progress_append, stopped_stays, list_step, leaves_start, leaves_more, leaves_stop, leaves_end, segments_start, segments_more, segments_end}
-use Rattle.redact_2_turn.specs.Taken.{Passing, PassedOr, LeavesPassed, Turning, Turned, TurnedOr}
+use Rattle.redact_2_turn.specs.Taken.{Passing, PassedOr, LeavesPassed, Turning, Turned}
 use Rattle.redact_2_turn.proofs.Funds.{room_left_more, room_left_skip}
 use Rattle.redact_2_turn.proofs.Still.{Still}
 

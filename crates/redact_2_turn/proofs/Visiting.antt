@@ -1,8 +1,8 @@
 -- Laws of a turn's visits: what each asks for, what it answers, and the loops over leaves and segments. Assumes nothing.
 use mathlib.Core.Path.{◌≡◌, refl, sym, ap, subst, ◌∙◌}
 use mathlib.Core.Bool.{Bool, true, false, not, ◌&&◌, ◌||◌}
-use mathlib.Core.List.{List, [], ◌∷◌}
-use Prim.Native.Nat.{ℕ, suc, ◌+◌, ◌-◌, ◌*◌, ◌≤◌, ◌<◌}
+use mathlib.Core.List.{List, []}
+use Prim.Native.Nat.{ℕ, ◌+◌, ◌*◌, ◌≤◌, ◌<◌}
 use native.Mathlib.Omega.{arith}
 use lib.Dec.{eqb}
 use lib.ListN.{length}
@@ -17,22 +17,20 @@ use Rattle.er7_redact.specs.Action.{as_action, is_null_action, ActionHeld}
 use Rattle.er7_redact.specs.Policy.{as_rule, reject}
 use Rattle.er7_redact.specs.declared.action.Action.{Action as HeldAction}
 use Rattle.er7_redact.specs.declared.policy.Rule.{Rule as HeldRule}
-use Rattle.message_model.specs.Message.{Leaf, Label, touchable}
-use Rattle.run_model.specs.Redact.{Known, Progress, stopped, after_events, leaves_events, act, row, covers, reach, each_leaf, is_node, is_unnamed, for_posture, for_sweep}
-use Rattle.er7_table.specs.Table.{cell, list_of, place_at, name_at, first_leaf, label_at, as_label, Segmented, AllNamed}
+use Rattle.message_model.specs.Message.{Leaf, Label}
+use Rattle.run_model.specs.Redact.{act, row, covers, reach, each_leaf, is_node, is_unnamed, for_posture, for_sweep}
+use Rattle.er7_table.specs.Table.{cell, place_at, name_at, label_at, as_label, Segmented}
 use Rattle.redact_6_row.specs.Reach.{reaches_place}
-use Rattle.redact_5_act.specs.declared.state.Setting.{Setting}
 use Rattle.redact_5_act.specs.declared.state.Counters.{Counters}
 use Rattle.redact_5_act.specs.declared.state.Done.{Done}
 use Rattle.redact_5_act.specs.declared.state.Done.TheVariants.{Going, Stopped}
-use Rattle.redact_4_leaf.specs.Walk.{Pass}
-use Rattle.redact_4_leaf.specs.State.{Buffers, buffers, leaves, marked, text_in, knowing, RecordedIn, KnownHeld, Held, Ready, NodeReady, RoomLeft, ActedOn}
-use Rattle.redact_4_leaf.specs.Visit.{rule_pass, unnamed_pass, Visited, Visit}
+use Rattle.redact_4_leaf.specs.State.{Buffers, buffers, leaves, marked, text_in, knowing, KnownHeld, Ready, NodeReady, ActedOn}
+use Rattle.redact_4_leaf.specs.Visit.{rule_pass, unnamed_pass, Visit}
 use Rattle.redact_4_leaf.specs.declared.leaf.Spot.{Spot}
 use Rattle.redact_4_leaf.proofs.Unnamed.{unnamed_acted}
 use Rattle.redact_2_turn.specs.Turn.{pass_of, pass_by, by_node, aim_at, aim_of, aim_unnamed, enters, is_touched, works, TurnHeld, JobHeld}
-use Rattle.redact_2_turn.specs.Ordered.{Rising, Ordered, AllOrdered, StartAt, Skipped, SegmentsSkipped, SpotIs}
-use Rattle.redact_2_turn.specs.Taken.{Ahead, Visitable, Passable, Passing, PassedOr, LeavesPassed, Turning, Turned, TurnedOr, TurnTaken}
+use Rattle.redact_2_turn.specs.Ordered.{Rising, AllOrdered, StartAt, Skipped, SegmentsSkipped, SpotIs}
+use Rattle.redact_2_turn.specs.Taken.{Ahead, Visitable, Passable, Passing, LeavesPassed, Turning, TurnTaken}
 use Rattle.redact_2_turn.specs.declared.turn.Turn.{Turn}
 use Rattle.redact_2_turn.specs.declared.turn.Turn.TheVariants.{Apply, Collapse, Reject, Sweep, Idle}
 use Rattle.redact_2_turn.specs.declared.turn.Aim.{Aim}
@@ -41,7 +39,7 @@ use Rattle.redact_2_turn.proofs.Aims.{works_rule, works_unnamed, covers_here, to
 use Rattle.redact_2_turn.proofs.Still.{Still, still_leaf, still_segment}
 use Rattle.redact_2_turn.proofs.Funds.{room_left_ready, room_left_node}
 use Rattle.redact_2_turn.proofs.Turns.{spot, passing_start, passing_more, passing_stop, passing_still, passing_done, visit_going, visit_stopped, turning_start, segment_low, segment_high, turning_more, turning_stop, turning_still, turning_done, passed_going, passed_stopped}
-use Rattle.redact_2_turn.proofs.Idle.{started, skipped_passed, ahead_rising, ordered_as}
+use Rattle.redact_2_turn.proofs.Idle.{started, ahead_rising, ordered_as}
 
 -- ---- a leaf with which an aim has to do
 

@@ -1,3 +1,4 @@
 // A turn of a run over a message's tables.
 #![tactic(auto)]
+
 pub mod turn;

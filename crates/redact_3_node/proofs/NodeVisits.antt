@@ -1,11 +1,11 @@
 -- Laws of a visit to a leaf in the pass of a rule that collapses nodes. Assumes nothing.
-use mathlib.Core.Path.{◌≡◌, refl, sym, ◌∙◌}
-use mathlib.Core.Bool.{Bool, true, false, not, ◌&&◌, ◌||◌}
+use mathlib.Core.Path.{◌≡◌, refl, sym}
+use mathlib.Core.Bool.{Bool, true, false, ◌&&◌}
 use mathlib.Core.List.{List, [], ◌∷◌, ◌++◌}
 use mathlib.Core.Option.{none, some}
-use Prim.Native.Nat.{ℕ, suc, ◌+◌, ◌-◌, ◌≤◌, ◌<◌}
+use Prim.Native.Nat.{ℕ, suc, ◌-◌, ◌≤◌, ◌<◌}
 use native.Mathlib.Omega.{arith}
-use borrow.Author.Tests.{eq-eqb, not-true, not-false}
+use borrow.Author.Tests.{eq-eqb}
 use Rattle.text.specs.Text.{Text}
 use Rattle.text.proofs.Laws.{clash, or_id}
 use Rattle.text.proofs.Kept.{same_all}
@@ -17,7 +17,7 @@ use Rattle.refusal.specs.Limits.{LEAVES_MAX}
 use Rattle.message_model.specs.Message.{Leaf, leaf, Label}
 use Rattle.message_model.specs.Value.{is_null}
 use Rattle.run_model.specs.Redact.{Reach, each_leaf, each_node, Depth, reach, is_node, covers, starts, rest_of_node, is_nil, after, collapse, effect_in, effect, rule_leaf, rule_events, learning, changing, texts_at, size, row, after_events}
-use Rattle.er7_table.specs.Table.{cell, list_of, place_at, leaf_at, as_label, Good}
+use Rattle.er7_table.specs.Table.{cell, list_of, place_at, leaf_at, as_label}
 use Rattle.er7_render.specs.Stored.{Vanished}
 use Rattle.er7_render.proofs.Slots.{gone_good}
 use Rattle.er7_render.proofs.Sums.{lens_kept}
@@ -26,12 +26,12 @@ use Rattle.redact_5_act.specs.declared.state.Setting.{Setting}
 use Rattle.redact_5_act.specs.declared.state.Counters.{Counters}
 use Rattle.redact_5_act.specs.declared.state.Done.{Done}
 use Rattle.redact_5_act.specs.declared.state.Done.TheVariants.{Going, Stopped}
-use Rattle.redact_4_leaf.specs.State.{buffers, text_in, marked, KnownHeld, LearntTo, Learning, NodeReady, Change}
+use Rattle.redact_4_leaf.specs.State.{buffers, text_in, marked, KnownHeld, Learning, NodeReady, Change}
 use Rattle.redact_4_leaf.specs.Visit.{rule_pass, said_of, Visit}
 use Rattle.redact_4_leaf.specs.declared.leaf.Spot.{Spot}
 use Rattle.redact_4_leaf.proofs.Acting.{live_text, node_live}
 use Rattle.redact_4_leaf.proofs.Rules.{learnt_going, learnt_stopped}
-use Rattle.redact_4_leaf.proofs.Visits.{Seen, seen_visit, seen_full}
+use Rattle.redact_4_leaf.proofs.Visits.{seen_visit, seen_full}
 use Rattle.redact_3_node.specs.Node.{node_end, live_texts, already}
 use Rattle.redact_3_node.proofs.Nodes.{rest_live, end_low, live_here}
 

@@ -1,3 +1,4 @@
 // The collapse of a node.
 #![tactic(auto)]
+
 pub mod node;

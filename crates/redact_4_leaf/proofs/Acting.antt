@@ -7,7 +7,7 @@ use Prim.Native.Nat.{ℕ, ◌+◌, ◌-◌, ◌≤◌, ◌<◌}
 use native.Mathlib.Omega.{arith}
 use borrow.Author.Tests.{lt-ltb, le-ltb}
 use lib.ListN.{length, length-append}
-use Rattle.text.specs.Text.{Text, part, SameTo}
+use Rattle.text.specs.Text.{Text, SameTo}
 use Rattle.text.proofs.Laws.{clash}
 use Rattle.text.proofs.Kept.{part_length}
 use Rattle.refusal.specs.declared.Refusal.TheVariants.{MessageTooLong}

@@ -1,9 +1,9 @@
 -- Laws of a rule's visit to a leaf, where the rule acts on each leaf. Assumes nothing.
-use mathlib.Core.Path.{◌≡◌, refl, sym, ap, ◌∙◌}
-use mathlib.Core.Bool.{Bool, true, false, ◌||◌}
+use mathlib.Core.Path.{◌≡◌, refl, sym}
+use mathlib.Core.Bool.{Bool, true, false}
 use mathlib.Core.List.{List, [], ◌∷◌, ◌++◌}
 use mathlib.Core.Option.{some}
-use Prim.Native.Nat.{ℕ, suc, ◌+◌, ◌-◌, ◌≤◌, ◌<◌}
+use Prim.Native.Nat.{ℕ, suc, ◌+◌, ◌-◌, ◌≤◌}
 use native.Mathlib.Omega.{arith}
 use lib.ListN.{length}
 use Rattle.text.specs.Text.{Text}
@@ -19,7 +19,6 @@ use Rattle.message_model.specs.Message.{Leaf, leaf, Label}
 use Rattle.run_model.specs.Redact.{covers, reach, each_leaf, is_node, stays, after, act, effect_in, effect, row, Event, changing, learning, texts_at, size, rule_leaf, rule_events}
 use Rattle.run_model.proofs.InStep.{keep_is, keep_stays}
 use Rattle.er7_table.specs.Table.{cell, list_of, place_at, leaf_at, as_label}
-use Rattle.redact_5_act.specs.Act.{ActRoom}
 use Rattle.redact_5_act.specs.Known.{GoodKnown}
 use Rattle.redact_5_act.specs.declared.state.Setting.{Setting}
 use Rattle.redact_5_act.specs.declared.state.Counters.{Counters}

@@ -1,9 +1,9 @@
 -- Laws of a visit to an unnamed leaf, by a posture or by the sweep. Assumes nothing.
 use mathlib.Core.Path.{◌≡◌, refl, sym, ap, ◌∙◌}
 use mathlib.Core.Bool.{Bool, true, false, cond}
-use mathlib.Core.List.{List, [], ◌∷◌, ◌++◌}
+use mathlib.Core.List.{List, []}
 use mathlib.Core.Option.{Option, none, some}
-use Prim.Native.Nat.{ℕ, suc, ◌+◌, ◌-◌, ◌≤◌, ◌<◌}
+use Prim.Native.Nat.{ℕ, suc, ◌+◌, ◌-◌, ◌≤◌}
 use native.Mathlib.Omega.{arith}
 use lib.ListN.{length, take, drop}
 use Rattle.text.specs.Text.{Text, part, SameTo}
@@ -15,17 +15,17 @@ use Rattle.er7_redact.specs.Action.{Action, keep, as_action, ActionHeld}
 use Rattle.message_model.specs.Message.{Leaf, leaf, Label}
 use Rattle.run_model.specs.Redact.{after, for_sweep, act, act_or, row, changing, changing_or, is_unnamed, unnamed_leaf, unnamed_events, Known, after_events, stays}
 use Rattle.er7_table.specs.Table.{cell, list_of, place_at, leaf_at, as_label}
-use Rattle.redact_5_act.specs.Known.{action_at, swept_in, FoundAt, Swept}
+use Rattle.redact_5_act.specs.Known.{action_at, swept_in, Swept}
 use Rattle.redact_5_act.specs.declared.state.Setting.{Setting}
 use Rattle.redact_5_act.specs.declared.state.Counters.{Counters}
 use Rattle.redact_5_act.specs.declared.state.Done.{Done}
 use Rattle.redact_5_act.specs.declared.state.Done.TheVariants.{Going}
 use Rattle.redact_4_leaf.specs.Walk.{Pass}
-use Rattle.redact_4_leaf.specs.State.{buffers, text_in, marked, known_now, KnownHeld, LearntTo, Ready, Change, ActedOn}
+use Rattle.redact_4_leaf.specs.State.{buffers, text_in, marked, known_now, KnownHeld, LearntTo, Ready, ActedOn}
 use Rattle.redact_4_leaf.specs.Visit.{unnamed_pass, said_of, Visit}
 use Rattle.redact_4_leaf.specs.declared.leaf.Spot.{Spot}
 use Rattle.redact_4_leaf.proofs.Learnt.{learnt_none}
-use Rattle.redact_4_leaf.proofs.Acting.{Live, ready_live, live_text, text_length_lem, stayed}
+use Rattle.redact_4_leaf.proofs.Acting.{ready_live, live_text, text_length_lem, stayed}
 use Rattle.redact_4_leaf.proofs.Visits.{known_same, Seen, seen_visit}
 use Rattle.refusal.specs.Limits.{LEAVES_MAX}
 

@@ -1,30 +1,27 @@
 -- Laws of a visit to a leaf. Assumes nothing.
 use mathlib.Core.Path.{◌≡◌, refl, sym, ap, ◌∙◌}
 use mathlib.Core.Bool.{Bool, true, false}
-use mathlib.Core.List.{List, [], ◌∷◌, ◌++◌}
-use mathlib.Core.Option.{Option, none, some}
-use Prim.Native.Nat.{ℕ, suc, ◌+◌, ◌-◌, ◌≤◌, ◌<◌}
+use mathlib.Core.List.{List, ◌++◌}
+use Prim.Native.Nat.{ℕ, suc, ◌-◌, ◌≤◌, ◌<◌}
 use native.Mathlib.Omega.{arith}
-use lib.ListN.{length}
 use lib.Seq.{get_or-set_same, get_or-set_other}
 use Rattle.text.specs.Text.{Text, SameTo}
 use Rattle.refusal.specs.declared.Refusal.{Refusal}
 use Rattle.refusal.specs.Limits.{LEAVES_MAX}
-use Rattle.message_model.specs.Message.{Leaf, leaf, Label}
+use Rattle.message_model.specs.Message.{leaf}
 use Rattle.run_model.specs.Redact.{Effect, after, Row, changing, Event, Known, Progress, stopped, after_events}
-use Rattle.er7_table.specs.Table.{cell, list_of, place_at, leaf_at, as_label, Good}
-use Rattle.redact_5_act.specs.Known.{known_from, GoodKnown}
+use Rattle.er7_table.specs.Table.{list_of, place_at, leaf_at, as_label}
 use Rattle.redact_5_act.proofs.Learning.{known_same as rows_same, good_same}
 use Rattle.redact_5_act.specs.declared.state.Setting.{Setting}
 use Rattle.redact_5_act.specs.declared.state.Counters.{Counters}
 use Rattle.redact_5_act.specs.declared.state.Done.{Done}
 use Rattle.redact_5_act.specs.declared.state.Done.TheVariants.{Going, Stopped}
 use Rattle.redact_4_leaf.specs.Walk.{Pass}
-use Rattle.redact_4_leaf.specs.State.{Buffers, buffers, leaves, marked, Marked, text_in, known_now, knowing, KnownHeld, Recorded, LearntTo, Ready, Changed, ChangedOr, Change, ActedOn}
-use Rattle.redact_4_leaf.specs.Visit.{said_of, Visited, VisitedOr, Visit}
+use Rattle.redact_4_leaf.specs.State.{Buffers, buffers, marked, Marked, text_in, known_now, KnownHeld, Recorded, LearntTo, Changed, Change}
+use Rattle.redact_4_leaf.specs.Visit.{said_of, Visited, Visit}
 use Rattle.redact_4_leaf.specs.declared.leaf.Spot.{Spot}
 use Rattle.redact_4_leaf.proofs.Walks.{progress_append, stopped_stays}
-use Rattle.redact_4_leaf.proofs.Acting.{Live, live_text, live_length}
+use Rattle.redact_4_leaf.proofs.Acting.{Live, live_length}
 
 -- ---- marks
 

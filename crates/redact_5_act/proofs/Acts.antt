@@ -1,7 +1,7 @@
 -- Laws of an action on one leaf. Assumes nothing.
 use mathlib.Core.Path.{◌≡◌, refl, sym, ap, ◌∙◌}
 use mathlib.Core.Bool.{Bool, true, false}
-use mathlib.Core.Option.{Option, none, some}
+use mathlib.Core.Option.{Option, some}
 use Prim.Native.Nat.{ℕ, ◌+◌, ◌-◌, ◌≤◌, ◌<◌}
 use native.Mathlib.Omega.{arith}
 use borrow.Author.Tests.{ltb-true, ltb-false}
@@ -12,7 +12,7 @@ use Rattle.text.proofs.Kept.{same_all, same_then, part_length, wrote_between, wr
 use Rattle.text.proofs.Words.{same_eq}
 use Rattle.er7.specs.declared.separators.Separators.{Separators}
 use Rattle.er7_redact.specs.declared.action.Applied.TheVariants.{Written, Nothing}
-use Rattle.er7_redact.specs.Action.{Action, is_null_action, apply, answer, written, room}
+use Rattle.er7_redact.specs.Action.{Action, is_null_action, apply, answer, written}
 use Rattle.er7_redact.proofs.Actions.{room_written, answered_nothing, answered_text, answered_room, answered_length}
 use Rattle.er7_value.proofs.Decoding.{value_length}
 use Rattle.er7_value.proofs.Encoding.{encode_length, encode_same}

@@ -2,7 +2,7 @@
 use Rattle.std.specs.Prelude.{Bool, true, ◌&&◌}
 use Rattle.er7.specs.Path.{Path}
 use Rattle.er7.specs.declared.message.Place.{Place}
-use Rattle.run_model.specs.Redact.{fits, Reach, each_leaf, each_node, by_field, by-repetition, by-component, starts}
+use Rattle.run_model.specs.Redact.{fits, Reach, each_leaf, each_node, by_field, by_repetition, by_component, starts}
 use Rattle.redact_6_row.specs.declared.reach.Reach.{Reach as HeldReach}
 use Rattle.redact_6_row.specs.declared.reach.Reach.TheVariants as Held
 
@@ -16,8 +16,8 @@ reaches_place w p =
 unfoldable pub as_reach : HeldReach → Reach
 as_reach Held.EachLeaf = each_leaf
 as_reach Held.EachField = each_node by_field
-as_reach Held.EachRepetition = each_node by-repetition
-as_reach Held.EachComponent = each_node by-component
+as_reach Held.EachRepetition = each_node by_repetition
+as_reach Held.EachComponent = each_node by_component
 
 -- what a rule acts on begins here: a leaf, or a node
 unfoldable pub starts_at : Reach → Place → Bool

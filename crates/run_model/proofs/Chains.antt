@@ -18,9 +18,9 @@ use Rattle.er7_redact.specs.Policy.{Rule}
 use Rattle.message_model.specs.Message.{Leaf, leaf, Label, Segment, segment, ends_leaf, next, leaves, leaves_behind, at_field, is_header_name, header_leaves, leaves_of, is_named, segments, message_of, segments_fault, message_fault, touchable}
 use Rattle.message_model.proofs.Places.{Positive, positive_field, positive_piece}
 use Rattle.message_model.proofs.Faultless.{three, header_line, named_line, faultless_lines, faultless, segments_are, no_segments}
-use Rattle.message_model.specs.Chain.{Piece, a-field, a-repetition, a-component, a-subcomponent, next_place, Chain, Chained}
+use Rattle.message_model.specs.Chain.{Piece, a_field, a_repetition, a_component, a_subcomponent, next_place, Chain, Chained}
 use Rattle.run_model.specs.Order.{FieldFirst, FieldsFirst}
-use Rattle.run_model.specs.Redact.{fits, reaches, covers, Depth, by_field, by-repetition, by-component, Reach, each_leaf, each_node, depth, reach, is_node, starts, Effect, stays, vanishes, becomes, after, effect, rule_leaf, is_unnamed, act_or, unnamed_leaf, over_leaves, over_segments, after_rule}
+use Rattle.run_model.specs.Redact.{fits, reaches, covers, Depth, by_field, by_repetition, by_component, Reach, each_leaf, each_node, depth, reach, is_node, starts, Effect, stays, vanishes, becomes, after, effect, rule_leaf, is_unnamed, act_or, unnamed_leaf, over_leaves, over_segments, after_rule}
 use Rattle.run_model.proofs.InStep.{is_gone, vanishing, act_gone, effect_in_gone}
 
 -- ---- the nodes of a depth
@@ -28,8 +28,8 @@ use Rattle.run_model.proofs.InStep.{is_gone, vanishing, act_gone, effect_in_gone
 -- the first place of the node of a place
 abbrev pub node_place : Depth → Place → Place
 node_place by_field p = record { field = p.field; repetition = 1; component = 1; subcomponent = 1 }
-node_place by-repetition p = record { field = p.field; repetition = p.repetition; component = 1; subcomponent = 1 }
-node_place by-component p = record { field = p.field; repetition = p.repetition; component = p.component; subcomponent = 1 }
+node_place by_repetition p = record { field = p.field; repetition = p.repetition; component = 1; subcomponent = 1 }
+node_place by_component p = record { field = p.field; repetition = p.repetition; component = p.component; subcomponent = 1 }
 
 -- q stands next to p
 abbrev pub Next : Place → Place → Type 0
@@ -45,18 +45,18 @@ not_one n h = ne_eqb (n + 1) 1 (λ e. omega arith)
 
 next_is : (d : Depth) (k : Piece) (p : Place) → Positive p → NextNode d p (next_place k p)
 unfolding starts
-next_is by_field a-field p h = new_node refl (a-field, refl) refl
-next_is by_field a-repetition p h = same_node (rw (not_one p.repetition h.repetition)) refl
-next_is by_field a-component p h = same_node (rw (not_one p.component h.component, and_false)) refl
-next_is by_field a-subcomponent p h = same_node (rw (not_one p.subcomponent h.subcomponent, and_false)) refl
-next_is by-repetition a-field p h = new_node refl (a-field, refl) refl
-next_is by-repetition a-repetition p h = new_node refl (a-repetition, refl) refl
-next_is by-repetition a-component p h = same_node (rw (not_one p.component h.component)) refl
-next_is by-repetition a-subcomponent p h = same_node (rw (not_one p.subcomponent h.subcomponent, and_false)) refl
-next_is by-component a-field p h = new_node refl (a-field, refl) refl
-next_is by-component a-repetition p h = new_node refl (a-repetition, refl) refl
-next_is by-component a-component p h = new_node refl (a-component, refl) refl
-next_is by-component a-subcomponent p h = same_node (rw (not_one p.subcomponent h.subcomponent)) refl
+next_is by_field a_field p h = new_node refl (a_field, refl) refl
+next_is by_field a_repetition p h = same_node (rw (not_one p.repetition h.repetition)) refl
+next_is by_field a_component p h = same_node (rw (not_one p.component h.component, and_false)) refl
+next_is by_field a_subcomponent p h = same_node (rw (not_one p.subcomponent h.subcomponent, and_false)) refl
+next_is by_repetition a_field p h = new_node refl (a_field, refl) refl
+next_is by_repetition a_repetition p h = new_node refl (a_repetition, refl) refl
+next_is by_repetition a_component p h = same_node (rw (not_one p.component h.component)) refl
+next_is by_repetition a_subcomponent p h = same_node (rw (not_one p.subcomponent h.subcomponent, and_false)) refl
+next_is by_component a_field p h = new_node refl (a_field, refl) refl
+next_is by_component a_repetition p h = new_node refl (a_repetition, refl) refl
+next_is by_component a_component p h = new_node refl (a_component, refl) refl
+next_is by_component a_subcomponent p h = same_node (rw (not_one p.subcomponent h.subcomponent)) refl
 
 next_node : (d : Depth) (p q : Place) → Positive p → Next p q → NextNode d p q
 next_node d p q h (k, e) = rw e (next_is d k p h)
@@ -70,15 +70,15 @@ positive_at p q h (k, e) = rw e (positive_piece k p h)
 abbrev Absent : Reach → Path → Type 0
 Absent each_leaf w = Unit {0}
 Absent (each_node by_field) w = (eqb w.subcomponent 0 ≡ true) × (eqb w.component 0 ≡ true) × (eqb w.repetition 0 ≡ true)
-Absent (each_node by-repetition) w = (eqb w.subcomponent 0 ≡ true) × (eqb w.component 0 ≡ true)
-Absent (each_node by-component) w = eqb w.subcomponent 0 ≡ true
+Absent (each_node by_repetition) w = (eqb w.subcomponent 0 ≡ true) × (eqb w.component 0 ≡ true)
+Absent (each_node by_component) w = eqb w.subcomponent 0 ≡ true
 
 absent : (r : Rule) → Absent (reach r) r.path
 unfolding reach depth
 absent r = go (is_null_action r.action) (eqb r.path.subcomponent 0) (eqb r.path.component 0) (eqb r.path.repetition 0) refl refl refl
   where
     go : (a b c d : Bool) → eqb r.path.subcomponent 0 ≡ b → eqb r.path.component 0 ≡ c → eqb r.path.repetition 0 ≡ d
-        → Absent (cond (a && b) (each_node (cond c (cond d by_field by-repetition) by-component)) each_leaf) r.path
+        → Absent (cond (a && b) (each_node (cond c (cond d by_field by_repetition) by_component)) each_leaf) r.path
     go true true true true e f h = (e, f, h)
     go true true true false e f h = (e, f)
     go true true false d e f h = e
@@ -98,10 +98,10 @@ covers_node r g by_field p e =
       fits_any r.path.component p.component 1 f.1,
       fits_any r.path.repetition p.repetition 1 f.2,
     )
-covers_node r g by-repetition p e =
+covers_node r g by_repetition p e =
     let f = rw e at (absent r) in
     rw (fits_any r.path.subcomponent p.subcomponent 1 f.0, fits_any r.path.component p.component 1 f.1)
-covers_node r g by-component p e = rw (fits_any r.path.subcomponent p.subcomponent 1 (rw e at (absent r)))
+covers_node r g by_component p e = rw (fits_any r.path.subcomponent p.subcomponent 1 (rw e at (absent r)))
 
 pub covers_next : (r : Rule) (g : Label) (d : Depth) (p q : Place) → reach r ≡ each_node d → Positive p → Next p q → starts d q ≡ false
     → covers r g q ≡ covers r g p
@@ -132,9 +132,9 @@ gone_is false v F e = refl
 pub field_starts : (d : Depth) (p : Place) → starts by_field p ≡ true → starts d p ≡ true
 unfolding starts
 field_starts by_field p e = e
-field_starts by-repetition p e =
+field_starts by_repetition p e =
     let f = three (eqb p.repetition 1) (eqb p.component 1) (eqb p.subcomponent 1) e in and_true _ _ f.1 f.2
-field_starts by-component p e = (three (eqb p.repetition 1) (eqb p.component 1) (eqb p.subcomponent 1) e).2
+field_starts by_component p e = (three (eqb p.repetition 1) (eqb p.component 1) (eqb p.subcomponent 1) e).2
 
 -- ---- a pass that keeps every leaf
 
@@ -158,8 +158,8 @@ module _ (f : Label → Leaf → List Leaf → Leaf) (g : Label) where
 node_zero : (d : Depth) → node_place d (at_field 0) ≡ at_field 0
 unfolding at_field
 node_zero by_field = refl
-node_zero by-repetition = refl
-node_zero by-component = refl
+node_zero by_repetition = refl
+node_zero by_component = refl
 
 pub cond_both : {X : Type 0} (b : Bool) (x : X) → cond b x x ≡ x
 cond_both true x = refl

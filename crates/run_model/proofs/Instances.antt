@@ -108,11 +108,11 @@ quiet_second v l =
     (only (bytes "xyz") v _ l.0 _ _ _ l.1)
     (((λ h. absurd h), ((λ h. absurd h), tt)), (((λ h. absurd h), ((λ h. tt), tt)), tt))
 
-pub premises-met :
+pub premises_met :
     TwoCalls masks 0 P first second (lent 65536) (lent 23) × Settled 0 P (message_of first) (message_of second)
     × Unswept 0 P (message_of first) (message_of second) × (first ≡ second → ⊥)
 unfolding computes
-premises-met = (calls, settled, inr (quiet_first, quiet_second), λ e. absurd (subst (λ (t : Text). T (same first t)) e tt))
+premises_met = (calls, settled, inr (quiet_first, quiet_second), λ e. absurd (subst (λ (t : Text). T (same first t)) e tt))
 
 -- ---- an instance: `""^x` and `a^x`, kept and then collapsed. Keep is passed by, and the null that was there counts as changed
 
@@ -128,11 +128,11 @@ nulled = bytes "MSH|^~\\&\rPID|\"\"^x"
 abbrev full : Text
 full = bytes "MSH|^~\\&\rPID|a^x"
 
-pub keep-passed :
+pub keep_passed :
     TwoCalls collapsing 0 K nulled full (lent 65536) (lent 65536) × Settled 0 K (message_of nulled) (message_of full)
     × Unswept 0 K (message_of nulled) (message_of full) × (nulled ≡ full → ⊥)
 unfolding computes
-keep-passed = (
+keep_passed = (
   two_calls refl refl refl refl (behind_header (AlikeLeaves.next _ _ _ (λ h. absurd h) (AlikeLeaves.next _ _ _ (λ h. absurd h) AlikeLeaves.end))),
   only_behind _ _ (λ d. (inr tt, inr tt, refl)) (λ d. absurd (d refl)) (λ d. d refl) (λ d. d refl) (λ j d. d refl) (λ j d. d refl) (λ i j d. d refl),
   inr ((λ v l. absurd (no_change v l.0 _ _ _ l.1)), (λ v l. absurd (no_change v l.0 _ _ _ l.1))),
@@ -150,11 +150,11 @@ C = record { rules = first_field null ∷ second_component ∷ []; posture = acc
 abbrev other : Text
 other = bytes "MSH|^~\\&\rPID|b^y"
 
-pub vanished-covered :
+pub vanished_covered :
     TwoCalls vanishes 0 C full other (lent 65536) (lent 65536) × Settled 0 C (message_of full) (message_of other)
     × Unswept 0 C (message_of full) (message_of other) × (full ≡ other → ⊥)
 unfolding computes
-vanished-covered = (
+vanished_covered = (
   two_calls refl refl refl refl (behind_header (AlikeLeaves.next _ _ _ (λ h. absurd h) (AlikeLeaves.next _ _ _ (λ h. absurd h) AlikeLeaves.end))),
   only_behind _ _ (λ d. (inr tt, inr tt, refl)) (λ d. (inr tt, inr tt, refl)) (λ d. d refl) (λ d. d refl) (λ j d. d refl) (λ j d. d refl) (λ i j d. d refl),
   inr ((λ v l. absurd (no_change v l.0 _ _ _ l.1)), (λ v l. absurd (no_change v l.0 _ _ _ l.1))),
@@ -175,11 +175,11 @@ three = bytes "MSH|^~\\&\rPID|abc"
 abbrev four : Text
 four = bytes "MSH|^~\\&\rPID|abcd"
 
-pub settled-needed :
+pub settled_needed :
     TwoCalls shortens 0 Q three four (lent 65536) (lent 65536) × Unswept 0 Q (message_of three) (message_of four)
     × (SameResult (redact_outcome (lent 65536) three shortens 0) (redact_outcome (lent 65536) four shortens 0) → ⊥)
 unfolding computes
-settled-needed = (
+settled_needed = (
   two_calls refl refl refl refl (behind_header (AlikeLeaves.next _ _ _ (λ h. absurd h) AlikeLeaves.end)),
   inl tt,
   λ h. let e : ◌≡◌ {A = ℕ} 1 2 = h.rows in omega arith,
@@ -193,11 +193,11 @@ swept = bytes "MSH|^~\\&\rPID|abc|abc"
 abbrev unswept : Text
 unswept = bytes "MSH|^~\\&\rPID|xyz|abc"
 
-pub unswept-needed :
+pub unswept_needed :
     TwoCalls masks 0 P swept unswept (lent 65536) (lent 65536) × Settled 0 P (message_of swept) (message_of unswept)
     × (SameResult (redact_outcome (lent 65536) swept masks 0) (redact_outcome (lent 65536) unswept masks 0) → ⊥)
 unfolding computes
-unswept-needed = (
+unswept_needed = (
   two_calls refl refl refl refl (behind_header (AlikeLeaves.next _ _ _ (λ h. absurd h) (AlikeLeaves.next _ _ _ (λ h. refl) AlikeLeaves.end))),
   only_behind _ _ (λ d. (inl (λ e. subst (Is (bytes "abc")) e tt), inl (λ e. subst (Is (bytes "xyz")) e tt), refl)) (λ d. absurd (d refl))
       (λ d. d refl) (λ d. d refl) (λ j d. d refl) (λ j d. d refl) (λ i j d. d refl),

@@ -10,7 +10,7 @@ use Rattle.er7.specs.declared.message.Place.{Place}
 use Rattle.er7.specs.declared.separators.Separators.{Separators}
 use Rattle.er7_redact.specs.Action.{Action}
 use Rattle.message_model.specs.Message.{Leaf, leaf, Label, Segment, segment}
-use Rattle.message_model.specs.Value.{is_empty_or_null, value, is_whole_word}
+use Rattle.message_model.specs.Value.{is_empty_or_null, is_whole_word}
 use Rattle.run_model.specs.Redact.{Effect, stays, vanishes, becomes, after, act, Row, Event, learn, change, changing, is_unnamed, act_or, unnamed_leaf, changing_or, unnamed_events, over_leaves, over_segments, leaves_events, segments_events, Known, longest_found, action_in, for_sweep}
 use Rattle.run_model.specs.Longest.{AllKnown}
 use Rattle.run_model.proofs.Longest.{known_map}

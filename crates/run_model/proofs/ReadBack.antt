@@ -4,7 +4,7 @@ use mathlib.Core.Bool.{Bool, true, false, cond}
 use Prim.Native.Nat.{ℕ, ◌+◌}
 use borrow.Author.Tests.{ltb-false}
 use lib.Dec.{ltb}
-use lib.ListN.{length, take}
+use lib.ListN.{length}
 use Rattle.text.specs.Text.{Text}
 use Rattle.refusal.specs.declared.Refusal.TheVariants.{ShortBuffer, TooMany, NoSuchBuiltin}
 use Rattle.refusal.specs.Limits.{RULES_MAX}
@@ -12,7 +12,7 @@ use Rattle.policy_model.specs.Policy as Q
 use Rattle.policy_model.specs.Policy.{Policy, PolicyRead, read, read_policy, merged, print_policy}
 use Rattle.policy_model.specs.Builtin.{builtin_text}
 use Rattle.policy_model.proofs.PolicyReadBack.{policy_read_back, merged_read_back}
-use Rattle.run_model.specs.Entries.{Answer, done, refused, Lent, filled, number_of, text_of, outcome, is_short, with_buffers, with_policy, printed_policy, merged_answer, print_answer, append_answer, builtin_answer, print_outcome, append_outcome, builtin_outcome, text_left}
+use Rattle.run_model.specs.Entries.{Answer, refused, Lent, text_of, outcome, is_short, with_buffers, with_policy, printed_policy, merged_answer, print_answer, append_answer, builtin_answer, print_outcome, append_outcome, builtin_outcome, text_left}
 use Rattle.run_model.proofs.Accepted.{Succeeds, number_positive}
 use Rattle.run_model.proofs.Demand3.{filled_front}
 

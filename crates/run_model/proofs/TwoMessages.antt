@@ -1,17 +1,16 @@
 -- Two messages with the same delimiters that are alike in all but covered leaves are redacted alike. Assumes nothing.
-use mathlib.Core.Path.{◌≡◌, refl, sym, ap, ap₂, ◌∙◌, subst}
+use mathlib.Core.Path.{◌≡◌, sym, ap₂, ◌∙◌, subst}
 use mathlib.Core.Logic.{◌⊎◌, inl, inr, ⊎_elim}
 use mathlib.Core.Bool.{Bool, false, not}
 use mathlib.Core.Option.{Option, discrete as Option-discrete}
-use mathlib.Core.List.{List, [], ◌++◌, List-discrete}
+use mathlib.Core.List.{List, [], List-discrete}
 use native.Mathlib.Decide.{ℕ_discrete}
 use Prim.Native.Nat.{ℕ}
-use lib.ListN.{length}
 use lib.Dec.{T}
 use Rattle.text.specs.Text.{Text}
 use Rattle.er7.specs.declared.separators.Separators.{Separators}
 use Rattle.er7_redact.specs.Policy.{Rule}
-use Rattle.message_model.specs.Message.{Leaf, Label, Segment, Message, print_segments}
+use Rattle.message_model.specs.Message.{Leaf, Label, Segment, Message}
 use Rattle.policy_model.specs.Policy.{Policy}
 use Rattle.run_model.specs.Redact.{Row, over_segments, unnamed_leaf, after_rules, rules_events, for_posture, for_sweep, before_sweep, events_before_sweep, Redacted, done, redact_from, redact}
 use Rattle.run_model.specs.Table.{rows_of, events_of, learnt_in}

@@ -16,7 +16,7 @@ use Rattle.refusal.specs.declared.Refusal.TheVariants.{TooMuchLearnt, MessageToo
 use Rattle.refusal.specs.Limits.{LEARNT_BYTES_MAX, LEARNT_MAX, TEXT_MAX}
 use Rattle.message_model.specs.Message.{Segment, Message}
 use Rattle.policy_model.specs.Policy.{Policy}
-use Rattle.run_model.specs.Redact.{Row, Event, learn, change, Known, Progress, running, stopped, knows, known_bytes, after_event, after_events, known_in, rules_events, after_rule, events_before_sweep, progress_before_sweep, Redacted, done, redacted_as, swept, redact_from}
+use Rattle.run_model.specs.Redact.{Row, Event, learn, change, Known, running, stopped, knows, known_bytes, after_event, after_events, rules_events, after_rule, events_before_sweep, Redacted, done, redact_from}
 use Rattle.run_model.specs.Table.{rows_of, learnt_in, events_of, exceeds, overflows}
 use Rattle.run_model.specs.Counts.{rule_turns, posture_turn, sweep_turn, row_counts, counts_of, sum, text_after, RunIs}
 use Rattle.run_model.proofs.InStep.{rows_append}

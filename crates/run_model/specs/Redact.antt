@@ -34,14 +34,14 @@ covers r g p = touchable g p && reaches r.path g p
 -- "A null rule that stops above the subcomponent replaces the whole node (each field, where the path is a segment alone)";
 -- every other rule acts on each leaf
 pub data Depth : Type 0 where
-  by_field by-repetition by-component : Depth
+  by_field by_repetition by_component : Depth
 
 pub data Reach : Type 0 where
   each_leaf : Reach
   each_node : Depth → Reach
 
 unfoldable pub depth : Path → Depth
-depth w = cond (eqb w.component 0) (cond (eqb w.repetition 0) by_field by-repetition) by-component
+depth w = cond (eqb w.component 0) (cond (eqb w.repetition 0) by_field by_repetition) by_component
 
 unfoldable pub reach : Rule → Reach
 reach r = cond (is_null_action r.action && eqb r.path.subcomponent 0) (each_node (depth r.path)) each_leaf
@@ -53,8 +53,8 @@ is_node (each_node d) = true
 -- a node's first leaf stands here
 unfoldable pub starts : Depth → Place → Bool
 starts by_field p = eqb p.repetition 1 && eqb p.component 1 && eqb p.subcomponent 1
-starts by-repetition p = eqb p.component 1 && eqb p.subcomponent 1
-starts by-component p = eqb p.subcomponent 1
+starts by_repetition p = eqb p.component 1 && eqb p.subcomponent 1
+starts by_component p = eqb p.subcomponent 1
 
 -- the texts of a node's leaves behind its first, among the leaves `xs` that follow it: up to the next node's first
 unfoldable pub rest_of_node : Depth → List Leaf → List Text

@@ -1,5 +1,6 @@
 // striplog on a key with CR LF behind it.
 #![tactic(auto)]
+
 use std::io;
 
 fn main(rt: HostRuntime) -> io::Result<()> {

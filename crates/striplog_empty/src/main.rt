@@ -1,5 +1,6 @@
 // striplog on a message of no bytes.
 #![tactic(auto)]
+
 use std::io;
 
 fn main(rt: HostRuntime) -> io::Result<()> {

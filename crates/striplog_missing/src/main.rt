@@ -1,5 +1,6 @@
 // striplog without a policy.
 #![tactic(auto)]
+
 use std::io;
 
 fn main(rt: HostRuntime) -> io::Result<()> {

@@ -1,5 +1,6 @@
 // striplog on a policy whose second line has a path that cannot be read.
 #![tactic(auto)]
+
 use std::io;
 
 fn main(rt: HostRuntime) -> io::Result<()> {

@@ -1,14 +1,13 @@
 // The three files, read, and what is printed, written.
 ghost use Rattle.std.specs.Prelude.{◌≤◌, length};
 
+use super::strip::strip;
 use files::read_full;
 use std::fs::File;
 use std::io;
 use std::io::{Read, Write};
 use std::rt::Files;
 use striplog_text::key::{Key, feed};
-
-use super::strip::strip;
 
 // Whether a file is there, and how many of its bytes were read.
 #[derive(Clone, Copy)]

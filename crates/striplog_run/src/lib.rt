@@ -1,4 +1,5 @@
 // striplog: the three files, and what is printed.
 #![tactic(auto)]
+
 pub mod files;
 pub mod strip;

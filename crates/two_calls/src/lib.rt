@@ -1,5 +1,6 @@
 // Demand 3 of the code: two calls of redact on messages that are alike in all but covered leaves.
 #![tactic(auto)]
+
 ghost use Rattle.std.specs.Prelude.{length};
 ghost use Rattle.entries.specs.Returned.{lent_report, as_redact_outcome};
 ghost use Rattle.two_calls.specs.TwoCalls.{RedactedTwice};

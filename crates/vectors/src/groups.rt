@@ -1,8 +1,7 @@
 // The groups of cases, and how many cases of each came out right.
+use super::lines::field;
 use std::io;
 use std::io::Write;
-
-use super::lines::field;
 use text::bytes::same_bytes;
 
 // The groups' names in the order of their numbers; then 23 for a case of no group, and 24 for all cases.

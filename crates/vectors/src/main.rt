@@ -1,5 +1,6 @@
 // Runs the cases of data/vectors.txt and data/sample.txt and prints, for each group, how many came out right.
 #![tactic(auto)]
+
 mod actions;
 mod cases;
 mod groups;

@@ -1,6 +1,5 @@
 use native.Mathlib.Omega.{arith}
 use mathlib.Core.Path.{sym, ◌∙◌}
-use Prim.Native.Nat.{◌-◌}
 use Rattle.policy.proofs.Reading.{reading_start, reading_more, reading_stop, reading_end}
 use Rattle.policy.proofs.Reading.{reading_start, reading_more, reading_stop, reading_end, line_further}
 use Rattle.policy.proofs.policy.read_lines.Goals as goal

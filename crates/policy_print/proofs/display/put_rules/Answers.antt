@@ -1,6 +1,4 @@
 use native.Mathlib.Omega.{arith}
-use borrow.Author.Rules.{rules}
-use Prim.Native.Nat.{◌-◌}
 use Rattle.policy_print.proofs.Parts.{rules_start, rules_more, rule_narrow, rule_fits}
 use Rattle.text.proofs.Writes.{wrote_length}
 use Rattle.policy_print.proofs.Parts.{rules_end}

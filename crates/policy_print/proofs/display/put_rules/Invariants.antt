@@ -1,4 +1,3 @@
-use borrow.Author.Rules.{rules}
 use Prim.Native.Nat.{◌-◌}
 use Rattle.policy_print.proofs.Parts.{RulesTo}
 use Rattle.policy_print.proofs.display.put_rules.Given as goal

@@ -1,6 +1,4 @@
 use native.Mathlib.Omega.{arith}
-use borrow.Author.Rules.{rules}
-use Prim.Native.Nat.{◌-◌}
 use Rattle.er7_redact.specs.Policy.{as_rule}
 use Rattle.policy_print.proofs.Parts.{width_start, width_more}
 use Rattle.policy_print.proofs.Parts.{width_end}

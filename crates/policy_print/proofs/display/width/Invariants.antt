@@ -1,4 +1,3 @@
-use borrow.Author.Rules.{rules}
 use Prim.Native.Nat.{◌-◌}
 use Rattle.policy_print.proofs.Parts.{WidthTo}
 use Rattle.policy_print.proofs.display.width.Given as goal

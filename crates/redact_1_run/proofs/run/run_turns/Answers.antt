@@ -1,6 +1,5 @@
 use borrow.Author.Rules.{rules}
 use native.Mathlib.Omega.{arith}
-use Prim.Native.Nat.{◌-◌}
 use Rattle.redact_1_run.proofs.Steps.{row_inside}
 use Rattle.redact_1_run.proofs.Course.{turns_start, turns_turn_ready, turns_more, turns_done, turn_held, job_held}
 use mathlib.Core.Path.{refl}

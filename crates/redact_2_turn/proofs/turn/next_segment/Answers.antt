@@ -1,6 +1,5 @@
 use native.Mathlib.Omega.{arith}
 use mathlib.Core.Path.{sym, ◌∙◌}
-use Prim.Native.Nat.{◌-◌}
 use Rattle.redact_2_turn.proofs.Idle.{segments_none, segments_more, segments_here, segments_end}
 use Rattle.redact_2_turn.proofs.turn.next_segment.Goals as goal
 

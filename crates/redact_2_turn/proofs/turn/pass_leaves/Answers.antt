@@ -1,7 +1,6 @@
 use borrow.Author.Rules.{rules}
 use mathlib.Core.Path.{refl, ap}
 use native.Mathlib.Omega.{arith}
-use Prim.Native.Nat.{◌-◌}
 use Rattle.redact_2_turn.proofs.Visiting.{skip_first, skip_next, standing_start, standing_visitable, standing_more, standing_stop, standing_end}
 use Rattle.redact_5_act.specs.State.{after_step}
 use Rattle.redact_2_turn.proofs.turn.pass_leaves.Goals as goal

@@ -1,6 +1,5 @@
 use native.Mathlib.Omega.{arith}
 use mathlib.Core.Path.{sym, ◌∙◌}
-use Prim.Native.Nat.{◌-◌}
 use Rattle.redact_4_leaf.specs.State.{marked}
 use Rattle.redact_2_turn.proofs.Idle.{passed_none, passed_more, skipped_here, skipped_end, skipped_rest}
 use Rattle.redact_2_turn.proofs.turn.skip.Goals as goal

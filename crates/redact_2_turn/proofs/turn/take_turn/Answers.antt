@@ -1,7 +1,6 @@
 use borrow.Author.Rules.{rules}
 use mathlib.Core.Path.{refl, ap}
 use native.Mathlib.Omega.{arith}
-use Prim.Native.Nat.{◌-◌}
 use Rattle.redact_2_turn.proofs.Visiting.{coming_start, coming_passable, coming_ahead, coming_more, coming_stop, coming_end}
 use Rattle.redact_5_act.specs.State.{after_step}
 use Rattle.redact_2_turn.proofs.turn.take_turn.Goals as goal

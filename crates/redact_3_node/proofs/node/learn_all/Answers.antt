@@ -1,5 +1,4 @@
 use native.Mathlib.Omega.{arith}
-use Prim.Native.Nat.{◌-◌}
 use Rattle.redact_3_node.proofs.Lessons.{before_start, before_good, before_more, before_stop, before_end, all_learnable}
 use mathlib.Core.Path.{ap}
 use Rattle.redact_5_act.specs.State.{after_step}

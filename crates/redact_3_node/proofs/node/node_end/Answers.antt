@@ -1,6 +1,5 @@
 use native.Mathlib.Omega.{arith}
 use mathlib.Core.Path.{sym, ◌∙◌}
-use Prim.Native.Nat.{◌-◌}
 use Rattle.redact_3_node.proofs.Nodes.{seeking_start, seeking_found, seeking_more, seeking_end}
 use Rattle.redact_3_node.proofs.node.node_end.Goals as goal
 

@@ -4,7 +4,6 @@ use mir.Syntax.{w64}
 use mir.ValLaws.{to_z-of_z}
 use Rattle.er7_redact.specs.declared.action.Action.TheVariants as Held
 use Prim.Native.Nat.{ℕ}
-use borrow.Author.Tests.{ne_eqb}
 use Rattle.redact_5_act.specs.Known.{action_of}
 use Rattle.redact_5_act.proofs.known.action_of.Goals as goal
 

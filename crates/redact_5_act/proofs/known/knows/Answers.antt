@@ -1,6 +1,5 @@
 use native.Mathlib.Omega.{arith}
 use mathlib.Core.Path.{sym, ◌∙◌}
-use Prim.Native.Nat.{◌-◌}
 use Rattle.redact_5_act.proofs.Knowing.{looking_start, looking_end, looking_found, looking_more}
 use Rattle.redact_5_act.proofs.known.knows.Goals as goal
 

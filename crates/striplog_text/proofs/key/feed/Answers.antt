@@ -1,5 +1,4 @@
 use native.Mathlib.Omega.{arith}
-use Prim.Native.Nat.{◌-◌}
 use Rattle.striplog_text.proofs.Keys.{feeding_start, feeding_more, feeding_end}
 use Rattle.striplog_text.proofs.key.feed.Goals as goal
 
