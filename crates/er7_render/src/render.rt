@@ -152,7 +152,7 @@ pub fn render(
     out: &mut [u8],
 ) -> usize
     requires segmented { Segmented segs.now layout.segments layout.leaves × AllNamed segs.now layout.segments × Good cells.now store.now layout.leaves (length store.now) }
-    requires store_in_bounds { length (rendered layout segs.now cells.now store.now) ≤ length out.old }
+    requires out_in_bounds { length (rendered layout segs.now cells.now store.now) ≤ length out.old }
     ensures { Wrote out.old 0 (rendered layout segs.now cells.now store.now) out.new result }
 {
     let mut at = 0;

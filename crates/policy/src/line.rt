@@ -154,7 +154,7 @@ fn read_unrecognised(text: &[u8], i: usize, e: usize) -> LineRead
     }
 }
 
-// `Known-values` with what stands from index i to index e.
+// `known-values` with what stands from index i to index e.
 fn read_known_values(text: &[u8], i: usize, e: usize) -> LineRead
     requires { (i ≤ e) × (e ≤ length text.now) }
     ensures { LineAt text.now (M.read_known_values (between text.now i e)) result }

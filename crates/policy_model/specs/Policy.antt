@@ -46,7 +46,7 @@ pub data LineRead : Type 0 where
   sweep : Bool → LineRead
   wrong : Refusal → LineRead
 
--- "The first word picks a directive (`accept`, `reject`, `unrecognised` or `unrecognized`, `Known-values`, case ignored), else
+-- "The first word picks a directive (`accept`, `reject`, `unrecognised` or `unrecognized`, `known-values`, case ignored), else
 -- a path"; "first word `*`" is none of them
 pub data LineKind : Type 0 where
   accept_kind reject_kind unrecognised_kind known_values_kind star_kind path_kind : LineKind

@@ -28,8 +28,8 @@ use Rattle.er7_message.specs.declared.message.ParsedMessage.{ParsedMessage}
 use Rattle.er7_message.specs.declared.message.ParsedMessage.TheVariants as Parsed
 use Rattle.er7_render.proofs.PrintBack.{parsed_named}
 use Rattle.text.proofs.Kept.{wrote_part}
-use Rattle.redact_1_run.specs.declared.core.Redacted.{Redacted}
-use Rattle.redact_1_run.specs.declared.core.Redacted.TheVariants as Run
+use Rattle.redact_1_run.specs.declared.from_tables.Redacted.{Redacted}
+use Rattle.redact_1_run.specs.declared.from_tables.Redacted.TheVariants as Run
 use Rattle.redact_1_run.specs.Ran.{Loaded, AnyLoaded, Left, RedactedIs}
 use Rattle.entries.specs.Returned.{lent, lent_report}
 use Rattle.entries.proofs.Outcomes as Outcomes

@@ -14,7 +14,7 @@ use entries::returned::{ReturnedReport, finish_report, is_short, refuse_report};
 use er7_message::message;
 use er7_message::message::ParsedMessage;
 use policy::policy::{Policy, Verdict, parse};
-use redact_1_run::core::{Redacted, redact_from};
+use redact_1_run::from_tables::{Redacted, redact_from};
 use refusal::Refusal;
 use refusal::limits::LEAVES_MAX;
 

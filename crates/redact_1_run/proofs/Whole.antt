@@ -34,7 +34,7 @@ use Rattle.redact_4_leaf.specs.State.{Buffers, buffers, leaves, marked, known_no
 use Rattle.redact_1_run.specs.Turns.{tasks_of, after_tasks, progress_tasks}
 use Rattle.redact_1_run.specs.Stage.{segments_of, Stage, Stands, Begun, Inputs}
 use Rattle.redact_1_run.specs.Ran.{Loaded, AnyLoaded, Printable, Ran, RedactedIs}
-use Rattle.redact_1_run.specs.declared.core.Redacted.TheVariants.{Redacted as Whole, Refused}
+use Rattle.redact_1_run.specs.declared.from_tables.Redacted.TheVariants.{Redacted as Whole, Refused}
 use Rattle.redact_1_run.proofs.Tasks.{tasks_redact}
 
 -- ---- the segments that the buffers hold, as the tables' definitions have them

@@ -12,8 +12,8 @@ use Rattle.er7_message.specs.declared.message.Layout.{Layout}
 use Rattle.er7_render.specs.Rendered.{rendered}
 use Rattle.redact_6_row.specs.Report.{Reported}
 use Rattle.redact_5_act.specs.declared.state.Counters.{Counters}
-use Rattle.redact_1_run.specs.declared.core.Redacted.{Redacted}
-use Rattle.redact_1_run.specs.declared.core.Redacted.TheVariants.{Redacted as Whole, Refused}
+use Rattle.redact_1_run.specs.declared.from_tables.Redacted.{Redacted}
+use Rattle.redact_1_run.specs.declared.from_tables.Redacted.TheVariants.{Redacted as Whole, Refused}
 use Rattle.refusal.specs.Limits.{INPUT_MAX, TEXT_MAX}
 
 -- a message that was read stands in the tables, over its bytes t; `size` bytes are there when its turn begins: its own, and those beside it

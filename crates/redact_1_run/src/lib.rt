@@ -1,5 +1,5 @@
 // One message, redacted.
 #![tactic(auto)]
 
-pub mod core;
+pub mod from_tables;
 pub mod run;

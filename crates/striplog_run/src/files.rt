@@ -2,7 +2,7 @@
 ghost use Rattle.std.specs.Prelude.{◌≤◌, length};
 
 use super::strip::strip;
-use files::read_full;
+use reading::read_full;
 use std::fs::File;
 use std::io;
 use std::io::{Read, Write};

@@ -12,7 +12,7 @@ mod policies;
 mod sample;
 mod values;
 
-use files::read_full;
+use reading::read_full;
 use std::fs::File;
 use std::io;
 use std::rt::Files;

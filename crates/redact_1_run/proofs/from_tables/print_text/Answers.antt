@@ -1,5 +1,5 @@
 use Rattle.redact_1_run.proofs.Whole.{text_fits, text_full}
-use Rattle.redact_1_run.proofs.core.print_text.Goals as goal
+use Rattle.redact_1_run.proofs.from_tables.print_text.Goals as goal
 
 pub returns-then-len-output : goal.returns-then-len-output
 returns-then-len-output c = text_fits c.requires c.render.ensures

@@ -1,7 +1,7 @@
 use borrow.Author.Rules.{rules}
 use mathlib.Core.Path.{refl}
 use Rattle.redact_1_run.proofs.Whole.{message_room, run_lent, run_begun, end_most, end_printable, end_ran, end_refused}
-use Rattle.redact_1_run.proofs.core.redact_from.Goals as goal
+use Rattle.redact_1_run.proofs.from_tables.redact_from.Goals as goal
 
 pub load-used-requires : goal.load-used-requires
 load-used-requires c = message_room c.requires.1
