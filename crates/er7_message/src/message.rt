@@ -205,7 +205,7 @@ fn read_rest(
     let mut i = from;
     let mut k = 1;
     let mut n = n0;
-    loop {
+    'lines: loop {
         let e = line_end(text, i);
         if !is_named(s, &text[i..e]) {
             return ParsedMessage::Refused(Refusal::BadSegment);

@@ -6,9 +6,9 @@ use Rattle.message_model.specs.Message.{segment_lines}
 use Rattle.er7_message.specs.Inner.{Reading}
 use Rattle.er7_message.proofs.message.read_rest.Given as goal
 
-abbrev pub invariant-loop-s : goal.invariant-loop-s
-invariant-loop-s l =
+abbrev pub invariant-lines : goal.invariant-lines
+invariant-lines l =
     (l.i ≤ length l.text) × (1 ≤ l.k) × Reading l.s l.text l.segs l.cells l.k l.n (segment_lines [] (drop l.i l.text)) × (length l.cells ≡ length l.initial.cells) × (l.n ≤ l.i)
 
-abbrev pub decreases-loop-s : goal.decreases-loop-s
-decreases-loop-s l = length l.text + 1 - l.i
+abbrev pub decreases-lines : goal.decreases-lines
+decreases-lines l = length l.text + 1 - l.i
