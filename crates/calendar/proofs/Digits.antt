@@ -1,44 +1,28 @@
 -- Laws of digits: texts of digits, the numbers they are worth, and numbers spelled with eight digits. Assumes nothing.
-use mathlib.Core.Path.{◌≡◌, refl, sym, ap, subst, ◌∙◌}
-use mathlib.Core.Bool.{Bool, true, false}
-use mathlib.Core.List.{[], ◌∷◌, ◌++◌, append_assoc, append-nil}
-use Prim.Native.Nat.{ℕ, zero, suc, ◌+◌, ◌*◌, ◌-◌, ◌/◌, ◌%◌, ◌≤◌, ◌<◌}
-use native.Mathlib.Nat.{add-zero, zero-add, add-suc, suc-add}
-use native.Mathlib.Numerals.{add-one}
-use native.Mathlib.Omega.{arith}
-use borrow.Author.Tests.{eq-eqb, ne_eqb, le-leb}
-use lib.Dec.{eqb}
-use lib.ListN.{length, take, drop, get_or, set, length-drop}
-use lib.Seq.{take-suc, take_all}
+use Rattle.std.proofs.Common.{◌≡◌, refl, sym, ap, ◌∙◌, true, ◌&&◌, [], ◌∷◌, ◌++◌, append_assoc, append-nil, ℕ, zero, suc, ◌+◌, ◌*◌, ◌-◌, ◌/◌, ◌%◌, ◌≤◌, ◌<◌, add-zero, zero-add, add-suc, suc-add, add-one, arith, le-leb, length, take, drop, get_or, length-take, take-append-drop, take-suc, take_all}
+use Rattle.std.specs.List.{list_all}
 use Rattle.text.specs.declared.bytes.Class.TheVariants.{Digit}
-use Rattle.text.specs.Text.{Text, is_digit, is_in, rest, part, all, RunEnd, Wrote}
+use Rattle.text.specs.Text.{Text, is_digit, is_in, all}
 use Rattle.text.specs.Number.{worth, positional}
-use Rattle.text.proofs.Laws.{split, and_left, and_right, and_true}
-use Rattle.text.proofs.Runs.{stop, rest_all, all_run, all_append}
-use Rattle.text.proofs.Spelling.{Spelling, spelling_more, spelling_end}
+use Rattle.text.proofs.Laws.{and_left, and_right, and_true}
+use Rattle.text.proofs.Runs.{all_append}
 use Rattle.text.proofs.Decimals.{digit_low, digit_high}
 use Rattle.calendar.specs.Shift.{digit}
 
 -- ---- a text of digits
 
--- a run of digits from the front ends at the end of the text exactly if all its bytes are digits
-module _ (s : Text) {e : ℕ} (r : RunEnd (is_in Digit) s 0 e) where
-  whole_run : length s ≤ e → all is_digit s ≡ true
-  unfolding is_in part
-  whole_run h = subst (λ (t : Text). all is_digit t ≡ true) (sym r.run_is ∙ take_all (e - 0) s (omega arith)) (all_run is_digit s)
+pub all_in : (s : Text) → list_all (is_in Digit) s ≡ all is_digit s
+unfolding all is_in
+all_in [] = refl
+all_in (x ∷ s) = ap (λ b. is_digit x && b) (all_in s)
 
-  part_run : e < length s → (b : Bool) → all is_digit s ≡ b → b ≡ false
-  unfolding is_in
-  part_run h false k = refl
-  part_run h true k =
-      let q : drop e s ≡ [] = r.rest_is ∙ ap (rest is_digit) (sym (append-nil s)) ∙ rest_all is_digit s [] k (unfold stop in refl) in
-      absurd (omega (arith, ap length q, length-drop e s))
-
-  pub digits_told : eqb e (length s) ≡ all is_digit s
-  digits_told =
-      split e (length s)
-      (λ h. ne_eqb e (length s) (λ q. omega arith) ∙ sym (part_run h (all is_digit s) refl))
-      (λ h. eq-eqb e (length s) (omega (arith, r.high)) ∙ sym (whole_run h))
+-- both parts of a text of digits
+pub all_parts : (a b : Text) → all is_digit (a ++ b) ≡ true → (all is_digit a ≡ true) × (all is_digit b ≡ true)
+unfolding all
+all_parts [] b e = (refl, e)
+all_parts (x ∷ a) b e =
+    let r = all_parts a b (and_right (is_digit x) (all is_digit (a ++ b)) e) in
+    (and_true (is_digit x) (all is_digit a) (and_left (is_digit x) (all is_digit (a ++ b)) e) r.0, r.1)
 
 digit_at : (s : Text) (i : ℕ) → all is_digit s ≡ true → i < length s → is_digit (get_or s i 0) ≡ true
 unfolding all
@@ -67,46 +51,42 @@ limit_most : (i : ℕ) → i < 8 → limit i ≤ 10000000
 unfolding limit
 limit_most i h = let e : (7 - i) + i ≡ 7 = omega arith in omega (arith, rw e at (limit_grows i (7 - i)))
 
--- n is what the first i of eight digits are worth
+-- n is what the first i of at most eight digits are worth
 pub record Reading (s : Text) (i n : ℕ) : Type 0 where
-  pub most : i ≤ 8
+  pub few : length s ≤ 8
+  pub digits : all is_digit s ≡ true
   pub small : n < limit i
   pub is : n ≡ worth 0 (take i s)
 
-pub reading_start : (s : Text) → Reading s 0 0
+pub reading_start : (s : Text) → all is_digit s ≡ true → Reading (take 8 s) 0 0
 unfolding limit worth
-reading_start s = record { most = omega arith; small = omega arith; is = refl }
+reading_start s a = record {
+  few = omega (arith, length-take 8 s);
+  digits = (all_parts (take 8 s) (drop 8 s) (rw (take-append-drop 8 s) a)).0;
+  small = omega arith;
+  is = refl;
+}
 
-module _ {s : Text} {i n : ℕ} (r : Reading s i n) (l : 8 ≤ length s) (a : all is_digit s ≡ true) (h : i < 8) where
+module _ {s : Text} {i n : ℕ} (r : Reading s i n) (h : i < length s) where
   pub reading_low : 48 ≤ get_or s i 0
-  reading_low = digit_low (get_or s i 0) (digit_at s i a (omega arith))
+  reading_low = digit_low (get_or s i 0) (digit_at s i r.digits h)
 
   pub reading_fits : n * 10 + (get_or s i 0 - 48) < 100000000
-  reading_fits = omega (arith, r.small, limit_most i h, digit_high (get_or s i 0) (digit_at s i a (omega arith)))
+  reading_fits = omega (arith, r.small, r.few, limit_most i (omega (arith, r.few)), digit_high (get_or s i 0) (digit_at s i r.digits h))
 
-  pub reading_more : Reading s (i + 1) (n * 10 + (get_or s i 0 - 48))
+  pub reading_more : {v : ℕ} → v ≡ get_or s i 0 - 48 → Reading s (i + 1) (n * 10 + v)
   unfolding limit worth
-  reading_more = rw (add-one i) (record {
-    most = h;
-    small = omega (arith, r.small, digit_high (get_or s i 0) (digit_at s i a (omega arith)));
-    is = sym (rw (take-suc s i 0 (omega arith), worth_append 0 (take i s) (get_or s i 0 ∷ []), r.is));
+  reading_more e = rw (add-one i) (record {
+    few = r.few;
+    digits = r.digits;
+    small = omega (arith, r.small, digit_high (get_or s i 0) (digit_at s i r.digits h));
+    is = sym (rw (take-suc s i 0 h, worth_append 0 (take i s) (get_or s i 0 ∷ []), r.is, e));
   })
 
-pub reading_end : {s : Text} {i n : ℕ} → Reading s i n → 8 ≤ i → n ≡ worth 0 (take 8 s)
-reading_end {s} {i} r h = let e : i ≡ 8 = omega (arith, r.most) in r.is ∙ rw e
+pub reading_end : {s : Text} {i n : ℕ} → Reading s i n → length s ≤ i → n ≡ worth 0 s
+reading_end {s} {i} r h = r.is ∙ rw (take_all i s h)
 
 -- ---- eight digits of a number, written from the last to the first
-
-module _ {n at : ℕ} {d₀ d : Text} where
-  pub spell_more : {m : ℕ} (i v : ℕ) → i < 8 → Spelling 10 digit 8 n d₀ at d (8 - i) m → at + 8 ≤ length d₀ → v ≡ digit (m % 10)
-      → Spelling 10 digit 8 n d₀ at (set d (at + 7 - i) v) (8 - (i + 1)) (m / 10)
-  spell_more {m} i v h g l e =
-      let q : at + (7 - i) ≡ at + 7 - i = omega arith in
-      subst (λ (j : ℕ). Spelling 10 digit 8 n d₀ at (set d j v) (8 - (i + 1)) (m / 10)) q
-      (spelling_more 10 digit (7 - i) (8 - (i + 1)) v g (omega arith) (omega arith) (omega arith) e)
-
-  pub spell_end : {k i m : ℕ} → n ≡ k → 8 ≤ i → Spelling 10 digit 8 n d₀ at d (8 - i) m → at + 8 ≤ length d₀ → Wrote d₀ at (positional 10 digit 8 k) d (at + 8)
-  spell_end e h g l = rw e at (spelling_end 10 digit g (omega arith) (omega arith))
 
 -- ---- spelling and reading are inverse
 
@@ -152,11 +132,3 @@ all_positional zero n = refl
 all_positional (suc k) n =
     all_append is_digit (positional 10 digit k (n / 10)) (digit (n % 10) ∷ []) (all_positional k (n / 10))
     (rw (le-leb 48 (48 + n % 10) (omega arith), le-leb (48 + n % 10) 57 (omega arith)))
-
--- both parts of a text of digits
-pub all_parts : (a b : Text) → all is_digit (a ++ b) ≡ true → (all is_digit a ≡ true) × (all is_digit b ≡ true)
-unfolding all
-all_parts [] b e = (refl, e)
-all_parts (x ∷ a) b e =
-    let r = all_parts a b (and_right (is_digit x) (all is_digit (a ++ b)) e) in
-    (and_true (is_digit x) (all is_digit a) (and_left (is_digit x) (all is_digit (a ++ b)) e) r.0, r.1)

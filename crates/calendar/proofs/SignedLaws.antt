@@ -1,17 +1,14 @@
 -- Laws of signed numbers in a range. Assumes nothing.
-use mathlib.Core.Path.{◌≡◌, refl, sym, ap, subst, ◌∙◌}
-use mathlib.Core.Bool.{true, false, ◌&&◌}
-use Prim.Native.Nat.{ℕ, zero, suc, ◌+◌, ◌-◌, ◌^◌, ◌≤◌, ◌<◌}
-use native.Mathlib.Omega.{arith}
-use lib.Dec.{T, leb, ltb}
-use lib.IntN.{ℤ, pos, negsuc, nat_abs, sub_ℕ, ◌+ℤ◌, ◌-ℤ◌}
-use lib.Signed.{mag, le_z, non_neg}
-use mir.Syntax.{w64}
-use mir.Val.{SFits, to_z, of_z}
-use mir.ValLaws.{to_z-of_z}
-use borrow.Author.Tests.{lt-ltb, le-ltb, ltb-false, le-leb, lt-leb}
+use Rattle.std.proofs.Common.{w64, SFits, to_z, of_z, to_z-of_z, ◌≡◌, refl, sym, ap, subst, ◌∙◌, true, false, ◌&&◌, ℕ, zero, suc, ◌+◌, ◌-◌, ◌^◌, ◌≤◌, ◌<◌, arith, T, leb, ltb, ℤ, pos, negsuc, nat_abs, ◌+ℤ◌, ◌-ℤ◌, lt-ltb, le-ltb, ltb-false, le-leb}
+use Rattle.std.proofs.Math.IntN.{sub_ℕ}
+use Rattle.std.specs.Int.Signed.{mag, le_z, non_neg}
+use Rattle.std.proofs.lemmas.Bool.{lt-leb}
 use Rattle.text.proofs.Laws.{split, clash, at_least, at_most, by_cond}
 use Rattle.calendar.specs.Calendar.{in_years}
+
+-- what is read back from the bits of a signed number of 64 bits
+pub back : (z : ℤ) → mag z < 2 ^ 63 → to_z w64 (of_z w64 z) ≡ z
+back z h = to_z-of_z {w = w64} {z = z} (record { sfits = h })
 
 -- a signed number from a to b is a natural number
 pub record Natural (a b : ℕ) (z : ℤ) : Type 0 where
@@ -79,7 +76,7 @@ module _ (z n : ℤ) (e : in_years z ≡ true) {z' n' : ℤ} (i : z' ≡ z) (j :
   unfolding in_years
   stays_is =
       let q = day_natural in
-      rw (to_z-of_z w64 (pos 1 -ℤ z') (side 1 (omega arith)), to_z-of_z w64 (pos 3652059 -ℤ z') (side 3652059 (omega arith)))
+      rw (to_z-of_z {w = w64} {z = (pos 1 -ℤ z')} (side 1 (omega arith)), to_z-of_z {w = w64} {z = (pos 3652059 -ℤ z')} (side 3652059 (omega arith)))
       (subst (λ (x : ℤ). le_z (pos 1 -ℤ x) n' && le_z n' (pos 3652059 -ℤ x) ≡ in_years (x +ℤ n')) (sym (i ∙ q.is)) (stays_by 3652059 (nat_abs z) n' q.low q.high)
       ∙ ap (λ (x : ℤ). in_years (x +ℤ n')) i
       ∙ ap (λ (x : ℤ). in_years (z +ℤ x)) j
@@ -93,7 +90,7 @@ years_fit z e = let q = in_range 1 3652059 z e in subst (SFits w64) (sym q.is) (
 -- a sum of two signed locals, which hold bits
 module _ (a b : ℤ) (f : SFits w64 a) (g : SFits w64 b) (h : SFits w64 (a +ℤ b)) where
   pub sum_fits : SFits w64 (to_z w64 (of_z w64 a) +ℤ to_z w64 (of_z w64 b))
-  sum_fits = rw (to_z-of_z w64 a f, to_z-of_z w64 b g) h
+  sum_fits = rw (to_z-of_z {w = w64} {z = a} f, to_z-of_z {w = w64} {z = b} g) h
 
   pub sum_back : to_z w64 (of_z w64 (to_z w64 (of_z w64 a) +ℤ to_z w64 (of_z w64 b))) ≡ a +ℤ b
-  sum_back = rw (to_z-of_z w64 a f, to_z-of_z w64 b g) (to_z-of_z w64 (a +ℤ b) h)
+  sum_back = rw (to_z-of_z {w = w64} {z = a} f, to_z-of_z {w = w64} {z = b} g) (to_z-of_z {w = w64} {z = (a +ℤ b)} h)

@@ -1,15 +1,5 @@
 -- Laws of texts that hold a date. Assumes nothing.
-use mathlib.Core.Path.{◌≡◌, refl, sym, ap, ◌∙◌}
-use mathlib.Core.Bool.{Bool, true, false, not, ◌&&◌, ◌||◌}
-use mathlib.Core.List.{[], ◌++◌}
-use Prim.Native.Nat.{ℕ, ◌+◌, ◌≤◌}
-use native.Mathlib.Omega.{arith}
-use borrow.Author.Tests.{not-true, not-false, eqb-true}
-use lib.Dec.{eqb}
-use lib.IntN.{ℤ, pos, nat_abs, ◌+ℤ◌}
-use lib.ListN.{length, drop, length-drop, length-append}
-use mir.Syntax.{w64}
-use mir.Val.{SFits}
+use Rattle.std.proofs.Common.{w64, SFits, ◌≡◌, refl, sym, ap, ◌∙◌, Bool, true, false, ◌&&◌, ◌||◌, [], ◌++◌, ℕ, ◌+◌, ◌≤◌, arith, eqb-true, eqb, ℤ, pos, nat_abs, ◌+ℤ◌, length, drop, length-drop, length-append}
 use Rattle.text.specs.Text.{Text, is_digit, all, Wrote}
 use Rattle.text.proofs.Laws.{and_left, and_right, by_cond}
 use Rattle.text.proofs.Spelling.{positional_length}
@@ -27,7 +17,7 @@ or_cases {ℓ} : {X : Type ℓ} (a b : Bool) → a || b ≡ true → (a ≡ true
 or_cases true b e f g = f refl
 or_cases false b e f g = g e
 
-long_bounds : (n : ℕ) → is_long n ≡ true → (8 ≤ n) × (n ≤ 14)
+pub long_bounds : (n : ℕ) → is_long n ≡ true → (8 ≤ n) × (n ≤ 14)
 unfolding is_long
 long_bounds n e =
     or_cases (eqb n 8 || eqb n 12) (eqb n 14) e
@@ -54,23 +44,6 @@ dated_of s e =
       date = and_right (is_long (length s) && all is_digit s) (is_date (front s)) e;
     }
 
-module _ (s : Text) {t : Bool} (e : t ≡ is_long (length s)) where
-  pub not_long : not t ≡ true → false ≡ is_dated s
-  unfolding is_dated
-  not_long h = rw (← e, not-true t h)
-
-  module _ {u : Bool} (h : not t ≡ false) (f : u ≡ all is_digit s) where
-    pub not_digits : not u ≡ true → false ≡ is_dated s
-    unfolding is_dated
-    not_digits g = rw (← e, ← f, not-false t h, not-true u g)
-
-    pub front_asks : not u ≡ false → (8 ≤ length s) × (all is_digit s ≡ true)
-    front_asks g = ((long_bounds (length s) (sym e ∙ not-false t h)).0, sym f ∙ not-false u g)
-
-    pub by_front : not u ≡ false → {d : Date} {v : Bool} → d ≡ front s → v ≡ is_date d → v ≡ is_dated s
-    unfolding is_dated
-    by_front g p q = rw (← e, ← f, not-false t h, not-false u g, q, p)
-
 -- ---- the writes. A signed local that is passed on is read back from its bits: z' is z
 
 pub date_length : (x : Date) → length (date_text x) ≡ 8
@@ -89,19 +62,9 @@ module _ {z z' : ℤ} (s d y : Text) (at : ℕ) (r : DayRoom z s at d) (e : y �
 
 -- ---- whether a value is moved
 
-module _ (n : ℤ) (s : Text) {t : Bool} (e : t ≡ is_dated s) where
-  pub not_dated : not t ≡ true → false ≡ is_moved n s
-  unfolding is_moved
-  not_dated h = rw (← e, not-true t h)
-
-  module _ (h : not t ≡ false) {z z' : ℤ} (i : z' ≡ z) (q : z ≡ pos (day_number (front s))) where
-    pub day_in_years : in_years z' ≡ true
-    day_in_years = ap in_years (i ∙ q) ∙ date_in_years (front s) (dated_of s (sym e ∙ not-false t h)).date
-
-    pub by_years : {n' : ℤ} {u : Bool} → n' ≡ n → u ≡ in_years (z' +ℤ n') → u ≡ is_moved n s
-    unfolding is_moved target
-    by_years {n'} j f =
-        rw (← e, not-false t h) (f ∙ ap (λ (x : ℤ). in_years (x +ℤ n')) (i ∙ q) ∙ ap (λ (m : ℤ). in_years (pos (day_number (front s)) +ℤ m)) j)
+-- the day of its date, z, read back from its bits as z'
+pub day_in_years : (s : Text) {z z' : ℤ} → is_dated s ≡ true → z' ≡ z → z ≡ pos (day_number (front s)) → in_years z' ≡ true
+day_in_years s e i q = ap in_years (i ∙ q) ∙ date_in_years (front s) (dated_of s e).date
 
 -- what `is_moved` told; n' is n, read back from its bits
 pub moved_told : {n n' : ℤ} (s : Text) {t b : Bool} → n' ≡ n → t ≡ is_moved n' s → t ≡ b → is_moved n s ≡ b

@@ -1,12 +1,5 @@
 -- "Where both results stay in the years, moving by n and then by minus n gives the date back", on texts. Assumes nothing.
-use mathlib.Core.Path.{◌≡◌, ap, ◌∙◌}
-use mathlib.Core.Bool.{true}
-use mathlib.Core.List.{◌++◌}
-use Prim.Native.Nat.{ℕ, ◌<◌}
-use native.Mathlib.Omega.{arith}
-use lib.IntN.{ℤ, pos, neg_ℤ}
-use lib.ListN.{length, take, drop, length-take, length-drop, length-append, take-append-drop}
-use lib.Seq.{take_at, drop_at}
+use Rattle.std.proofs.Common.{◌≡◌, ap, ◌∙◌, true, ◌++◌, ℕ, ◌<◌, arith, ℤ, pos, neg_ℤ, length, take, drop, length-take, length-drop, length-append, take-append-drop, take_at, drop_at}
 use Rattle.text.specs.Text.{Text, is_digit, all}
 use Rattle.text.specs.Number.{worth, positional}
 use Rattle.text.proofs.Runs.{all_append}

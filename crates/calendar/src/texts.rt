@@ -7,13 +7,15 @@ ghost use Rattle.calendar.specs.Inner.{DayRoom, day_text};
 ghost use Rattle.calendar.specs.Shift.{target, stamp, date_in, date_text, front, is_long, is_dated, is_moved, shifted};
 
 use super::dates::{Date, date_of, day_number, is_date};
-use text::bytes::{Class, copy_at, run_end};
+use text::bytes::{Class, copy_at, is_in};
+use text::decimal::digit;
+use text::positional::put_digits;
 
 // Whether every byte is a digit.
 fn all_digits(s: &[u8]) -> bool
     ensures { result ≡ all is_digit s.now }
 {
-    run_end(s, 0, Class::Digit) == s.len()
+    s.iter().all(|b| is_in(Class::Digit, *b))
 }
 
 // The number of the first eight digits.
@@ -21,16 +23,15 @@ fn eight_digits(s: &[u8]) -> u64
     requires { (8 ≤ length s.now) × (all is_digit s.now ≡ true) }
     ensures { result ≡ worth 0 (take 8 s.now) }
 {
-    let mut n: u64 = 0;
-    let mut i = 0;
-    while i < 8 {
-        n = n * 10 + (s[i] - 48) as u64;
-        i += 1;
+    let mut n = 0;
+    for b in &s[..8] {
+        n = n * 10 + u64::from(*b - b'0');
     }
     n
 }
 
 // The date that a number YYYYMMDD says.
+#[tactic(auto, unfolding(crate::specs::Shift::date_in))]
 fn date_in(n: u64) -> Date
     ensures { result ≡ date_in n }
 {
@@ -42,6 +43,7 @@ fn date_in(n: u64) -> Date
 }
 
 // The number YYYYMMDD of a date.
+#[tactic(auto, unfolding(crate::specs::Shift::stamp))]
 fn stamp_of(date: Date) -> u64
     requires { is_date date ≡ true }
     ensures { result ≡ stamp date }
@@ -50,10 +52,11 @@ fn stamp_of(date: Date) -> u64
 }
 
 // Whether a value of n bytes may be a date, alone or with four or six digits behind it.
+#[tactic(auto, unfolding(crate::specs::Shift::is_long))]
 fn is_long(n: usize) -> bool
     ensures { result ≡ is_long n }
 {
-    (n == 8) | (n == 12) | (n == 14)
+    matches!(n, 8 | 12 | 14)
 }
 
 // Writes the date to out from index at on, and returns the index behind it.
@@ -61,14 +64,9 @@ fn put_date(out: &mut [u8], at: usize, date: Date) -> usize
     requires { (at + 8 ≤ length out.old) × (is_date date ≡ true) }
     ensures { Wrote out.old at (date_text date) out.new result }
 {
-    let mut m = stamp_of(date);
-    let mut i = 0;
-    while i < 8 {
-        out[at + 7 - i] = 48 + (m % 10) as u8;
-        m = m / 10;
-        i += 1;
-    }
-    at + 8
+    let end = at + 8;
+    put_digits(&mut out[at..end], 10, stamp_of(date), digit);
+    end
 }
 
 // Whether the day n days behind a day of the years 1 to 9999 is one of them. Any n is compared with the days that are left on either side.
@@ -80,6 +78,7 @@ fn stays(day: i64, n: i64) -> bool
 }
 
 // The date at the front of a text of digits.
+#[tactic(auto, unfolding(crate::specs::Shift::front))]
 fn front_date(s: &[u8]) -> Date
     requires { (8 ≤ length s.now) × (all is_digit s.now ≡ true) }
     ensures { result ≡ front s.now }
@@ -88,19 +87,15 @@ fn front_date(s: &[u8]) -> Date
 }
 
 // Whether a value is of the form: a date, alone or with four or six digits behind it.
+#[tactic(auto, using(crate::proofs::TextLaws::long_bounds), unfolding(crate::specs::Shift::is_dated))]
 fn is_dated(s: &[u8]) -> bool
     ensures { result ≡ is_dated s.now }
 {
-    if !is_long(s.len()) {
-        return false;
-    }
-    if !all_digits(s) {
-        return false;
-    }
-    is_date(front_date(s))
+    is_long(s.len()) && all_digits(s) && is_date(front_date(s))
 }
 
 // The day of the date of a value.
+
 fn day_of(s: &[u8]) -> i64
     requires { is_dated s.now ≡ true }
     ensures { result ≡ pos (day_number (front s.now)) }
@@ -109,16 +104,15 @@ fn day_of(s: &[u8]) -> i64
 }
 
 // Whether a value is a date that stays in the years when it is moved by n days.
+#[tactic(auto, unfolding(crate::specs::Shift::is_moved, crate::specs::Shift::target))]
 fn is_moved(value: &[u8], n: i64) -> bool
     ensures { result ≡ is_moved n value.now }
 {
-    if !is_dated(value) {
-        return false;
-    }
-    stays(day_of(value), n)
+    is_dated(value) && stays(day_of(value), n)
 }
 
 // The day n days behind the date of a value.
+#[tactic(auto, using(crate::proofs::TextLaws::moved_of), unfolding(crate::specs::Shift::target))]
 fn moved_day(value: &[u8], n: i64) -> i64
     requires { is_moved n value.now ≡ true }
     ensures { result ≡ target n (front value.now) }
@@ -139,10 +133,7 @@ fn put_day(out: &mut [u8], at: usize, day: i64, value: &[u8]) -> usize
 pub fn shifted_len(value: &[u8], n: i64) -> usize
     ensures { result ≡ length (shifted n value.now) }
 {
-    if is_moved(value, n) {
-        return value.len();
-    }
-    0
+    if is_moved(value, n) { value.len() } else { 0 }
 }
 
 // Writes the shifted value to out from index at on, and returns the index behind it: at where it is cleared.
@@ -150,8 +141,9 @@ pub fn shift_at(value: &[u8], n: i64, out: &mut [u8], at: usize) -> usize
     requires { at + length (shifted n value.now) ≤ length out.old }
     ensures { Wrote out.old at (shifted n value.now) out.new result }
 {
-    if !is_moved(value, n) {
-        return at;
+    if is_moved(value, n) {
+        put_day(out, at, moved_day(value, n), value)
+    } else {
+        at
     }
-    put_day(out, at, moved_day(value, n), value)
 }

@@ -1,27 +1,22 @@
 -- Laws of what a payload gets. Assumes nothing.
-use mathlib.Core.Path.{◌≡◌, ap}
-use mathlib.Core.Bool.{true, false}
-use mathlib.Core.Option.{Option}
-use Prim.Native.Nat.{ℕ, ◌≤◌, ◌<◌}
-use native.Mathlib.Nat.{zero-add}
-use borrow.Author.Tests.{lt-ltb, le-ltb}
-use lib.ListN.{length, take}
-use lib.Seq.{take-append_seam}
+use Rattle.std.proofs.Common.{◌≡◌, Some, None, ap, ℕ, zero-add, sym, arith, Result, Ok, Err, IsErrAnd, length, take}
+use Rattle.std.proofs.Math.Option.{Option}
+use Rattle.std.proofs.lemmas.Result.{err_from_is_err_and}
+use Rattle.std.proofs.Math.Seq.{take-append_seam}
 use Rattle.text.specs.Text.{Text, put, Wrote}
 use Rattle.er7_redact.specs.Action as A
 use Rattle.er7_redact.specs.Action.{as_action, ActionHeld, answer, written}
 use Rattle.er7_redact.specs.declared.action.Action.{Action as HeldAction}
-use Rattle.er7_redact.specs.declared.action.Applied.TheVariants.{Written, Nothing}
 use Rattle.er7_redact.proofs.Actions.{answered_text, answered_nothing}
-use Rattle.refusal.specs.declared.Refusal.TheVariants.{TooLong, ForeignByte, Withheld}
-use Rattle.refusal.specs.Refusal.{too_long, no_foreign}
-use Rattle.refusal.specs.declared.input.Input.TheVariants as Inputs
-use Rattle.refusal.specs.Limits.{INPUT_MAX}
+use Rattle.refusal.specs.declared.Refusal.{Refusal}
+use Rattle.refusal.specs.declared.Refusal.TheVariants.{Withheld}
+use Rattle.refusal.specs.declared.Refused.{Refused}
+use Rattle.refusal.specs.Refusal.{without_line}
 use Rattle.policy.specs.declared.line.Unrecognised.{Unrecognised as HeldUnrecognised}
 use Rattle.policy.specs.declared.line.Unrecognised.TheVariants as Held
 use Rattle.policy.specs.Line.{as_unrecognised, UnrecognisedHeld}
 use Rattle.run_model.specs.Entries.{Answer, done, refused, without_fault, payload_fault, written_or, unrecognised}
-use Rattle.entries.specs.Inner.{NeverLong, UnrecognisedShort}
+use Rattle.entries.specs.Inner.{NeverLong, UnrecognisedShort, answer_of, Answers, fault_of}
 
 -- what was written to the front of a buffer stands there
 pub front_wrote : {d t d' : Text} {r : ℕ} → Wrote d 0 t d' r → take r d' ≡ t
@@ -32,11 +27,11 @@ front_wrote {d} {t} {d'} {r} w = rw (w.end, w.text, zero-add (length t), take-ap
 
 -- what an action writes, or the payload where it writes nothing
 module _ (o : Option Text) (t : Text) where
-  pub written_or_lem : {n : ℕ} → answer o ≡ Written n → written_or t o ≡ written o
+  pub written_or_lem : {n : ℕ} → answer o ≡ Some n → written_or t o ≡ written o
   unfolding written_or
   written_or_lem e = ap (written_or t) (answered_text o e)
 
-  pub nothing_or : answer o ≡ Nothing → written_or t o ≡ t
+  pub nothing_or : answer o ≡ None → written_or t o ≡ t
   unfolding written_or
   nothing_or e = ap (written_or t) (answered_nothing o e)
 
@@ -64,17 +59,30 @@ pub apply_short : (key : ℕ) (policy : Text) (u : HeldUnrecognised) {a : HeldAc
 unfolding as_unrecognised
 apply_short key policy u e h = rw e at h
 
--- ---- the payload's faults
+-- ---- what is written, or refused
 
+pub wrote_answers : {x : Answer Text} {d t d' : Text} {n : ℕ} → Wrote d 0 t d' n → length d' ≡ length d → x ≡ done t → Answers x d' (Ok n)
+unfolding answer_of
+wrote_answers w l e = record { is = rw e (ap done (front_wrote w)); inside = omega (arith, w.high) }
+
+pub refused_answers : {x : Answer Text} (d : Text) (e : Refusal) → x ≡ refused e 0 → Answers x d (Err (without_line e))
+unfolding answer_of without_line
+refused_answers d e q = record { is = sym q; inside = tt }
+
+-- what `?` hands on
+pub hands_on : {x : Answer Text} (d : Text) {e : Refused} (r : Result ℕ Refused) → IsErrAnd r (λ y. y ≡ e) → x ≡ refused e.refusal e.line → Answers x d r
+unfolding answer_of
+hands_on d r h q = let k = err_from_is_err_and r h in rw (k.1, k.2) (record { is = sym q; inside = tt })
+
+-- a payload without a fault, and one with a fault
 module _ (t : Text) (x : Answer Text) where
-  pub fault_long : INPUT_MAX < length t → without_fault (payload_fault t) x ≡ refused TooLong 0
-  unfolding payload_fault too_long without_fault
-  fault_long h = rw (lt-ltb INPUT_MAX (length t) h)
+  pub no_fault : {u : Unit {0}} → fault_of (Ok u) ≡ payload_fault t → without_fault (payload_fault t) x ≡ x
+  unfolding fault_of without_fault
+  no_fault e = rw (sym e)
 
-  pub fault_foreign : length t ≤ INPUT_MAX → no_foreign Inputs.Payload t ≡ false → without_fault (payload_fault t) x ≡ refused ForeignByte 0
-  unfolding payload_fault too_long without_fault
-  fault_foreign h e = rw (le-ltb INPUT_MAX (length t) h, e)
+  pub fault : (e : Refusal) → fault_of (Err e) ≡ payload_fault t → without_fault (payload_fault t) x ≡ refused e 0
+  unfolding fault_of without_fault
+  fault e q = rw (sym q)
 
-  pub fault_none : length t ≤ INPUT_MAX → no_foreign Inputs.Payload t ≡ true → without_fault (payload_fault t) x ≡ x
-  unfolding payload_fault too_long without_fault
-  fault_none h e = rw (le-ltb INPUT_MAX (length t) h, e)
+pub same_answer : {x y : Answer Text} {d : Text} {r : Result ℕ Refused} → x ≡ y → Answers y d r → Answers x d r
+same_answer e g = rw e g

@@ -1,23 +1,17 @@
 -- Laws of what print, append and built-in answer. Assumes nothing.
-use mathlib.Core.Path.{◌≡◌, refl, sym, ap, ◌∙◌}
-use mathlib.Core.Bool.{Bool, true, false, cond}
-use Prim.Native.Nat.{ℕ, ◌+◌, ◌≤◌}
-use native.Mathlib.Omega.{arith}
-use lib.ListN.{length, take, length-append}
-use lib.Seq.{take-append_seam}
-use lib.Dec.{ltb}
+use Rattle.std.proofs.Common.{◌≡◌, refl, sym, ap, ◌∙◌, Bool, true, false, cond, ℕ, ◌+◌, ◌≤◌, ltb, length, length-append, arith, Result}
+use Rattle.std.proofs.Math.Seq.{take-append_seam}
 use Rattle.text.specs.Text.{Text, put}
 use Rattle.refusal.specs.declared.Refusal.{Refusal}
 use Rattle.refusal.specs.declared.Refusal.TheVariants.{TooMany, NoSuchBuiltin}
+use Rattle.refusal.specs.declared.Refused.{Refused}
 use Rattle.refusal.specs.Limits.{RULES_MAX}
 use Rattle.policy_model.specs.Policy as Q
 use Rattle.policy_model.specs.Policy.{PolicyRead, read, read_policy, print_policy}
 use Rattle.policy_model.specs.Builtin.{builtin_text}
-use Rattle.policy_print.specs.declared.print.Printed.{Printed}
-use Rattle.policy_print.specs.declared.print.Printed.TheVariants.{Written, Refused}
 use Rattle.policy_print.specs.Print.{PrintedIs, printed_of, buffer_of, merged_read, appended, builtin_read}
-use Rattle.run_model.specs.Entries.{Answer, done, refused, with_policy, printed_policy, merged_answer}
-use Rattle.entries.specs.Inner.{WrittenIn}
+use Rattle.run_model.specs.Entries.{done, refused, with_policy, printed_policy, merged_answer}
+use Rattle.entries.specs.Inner.{answer_of, Answers}
 
 -- ---- what was printed
 
@@ -26,39 +20,13 @@ front_fits : (d t : Text) → length (put d 0 t) ≡ length d → length t ≤ l
 unfolding put
 front_fits d t e = omega (arith, simp length-append at e)
 
-pub written_in : (o : PolicyRead) {d d' : Text} {r : Printed} → PrintedIs o d d' r → length d' ≡ length d → WrittenIn (length d') r
-unfolding printed_of buffer_of
-written_in (read p) {d} {d'} {r} g e =
-    rw g.result (omega (arith, front_fits d (print_policy p) (ap length (sym g.buffer) ∙ e)))
-written_in (Q.refused x n) g e = rw g.result tt
-
-pub written_fits : {m n : ℕ} {r : Printed} → r ≡ Written n → WrittenIn m r → n ≤ m
-written_fits e h = rw e at h
-
--- the answer for what was read
-pub answer_written : (o : PolicyRead) {d d' : Text} {n : ℕ} → PrintedIs o d d' (Written n) → with_policy o printed_policy ≡ done (take n d')
-unfolding printed_of buffer_of with_policy printed_policy put
-answer_written (read p) {d} {d'} {n} g =
-    let e : n ≡ length (print_policy p) = written n (length (print_policy p)) g.result in
-    rw (e, g.buffer, take-append_seam (print_policy p) _)
-  where
-    written : (n m : ℕ) → Written n ≡ Written m → n ≡ m
-    written n m h = cc
-answer_written (Q.refused x k) {d} {d'} {n} g = never n x k g.result
-  where
-    never : {A : Type 0} {a b : A} (n : ℕ) (x : Refusal) (k : ℕ) → Written n ≡ Refused x k → a ≡ b
-    never n x k h = cc
-
-pub answer_refused : (o : PolicyRead) {d d' : Text} {x : Refusal} {n : ℕ} → PrintedIs o d d' (Refused x n) → with_policy o printed_policy ≡ refused x n
-unfolding printed_of with_policy
-answer_refused (read p) {d} {d'} {x} {n} g = never x n (length (print_policy p)) g.result
-  where
-    never : {A : Type 0} {a b : A} (x : Refusal) (k n : ℕ) → Refused x k ≡ Written n → a ≡ b
-    never x k n h = cc
-answer_refused (Q.refused y m) {d} {d'} {x} {n} g = same x y n m g.result
-  where
-    same : (x y : Refusal) (n m : ℕ) → Refused x n ≡ Refused y m → ◌≡◌ {A = Answer Text} (refused y m) (refused x n)
-    same x y n m h = cc
+pub printed_answers : (o : PolicyRead) {d d' : Text} {r : Result ℕ Refused} → PrintedIs o d d' r → length d' ≡ length d → Answers (with_policy o printed_policy) d' r
+unfolding printed_of buffer_of answer_of with_policy printed_policy put
+printed_answers (read p) {d} {d'} g e = rw g.result (record {
+  is = ap done (rw g.buffer (take-append_seam (print_policy p) _));
+  inside = omega (arith, e, front_fits d (print_policy p) (ap length (sym g.buffer) ∙ e));
+})
+printed_answers (Q.refused x n) g e = rw g.result (record { is = refl; inside = tt })
 
 -- ---- the answers of print, append and built-in
 

@@ -1,9 +1,6 @@
 -- The action on an unrecognised payload never writes more than a message may hold: "rest over 80". Assumes nothing.
-use mathlib.Core.Path.{◌≡◌}
-use mathlib.Core.List.{◌++◌}
-use Prim.Native.Nat.{ℕ}
-use native.Mathlib.Omega.{arith}
-use lib.ListN.{length-append, length-take, length-drop, length-replicate}
+use Rattle.std.proofs.Common.{◌≡◌, ◌++◌, ℕ, arith, length-append, length-take, length-drop}
+use Rattle.std.proofs.lemmas.List.{length-replicate}
 use Rattle.text.specs.Text.{Text, bytes}
 use Rattle.text.specs.Number.{eight_bytes}
 use Rattle.text.proofs.Spelling.{hexadecimal_length}

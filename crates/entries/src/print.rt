@@ -1,35 +1,19 @@
 // The entries print, append and built-in: they write the printed form of the policy read, merged or named.
 ghost use Rattle.std.specs.Prelude.{◌≡◌, length};
-ghost use Rattle.text.specs.Text.{Text};
-ghost use Rattle.policy_model.specs.Policy.{PolicyRead};
-ghost use Rattle.policy_print.specs.Print.{PrintedIs};
-ghost use Rattle.run_model.specs.Entries.{outcome, with_policy, print_outcome, append_outcome, builtin_outcome};
-ghost use Rattle.run_model.specs.Entries as Spec;
+ghost use Rattle.run_model.specs.Entries.{print_outcome, append_outcome, builtin_outcome};
 ghost use Rattle.entries.specs.Returned.{lent, as_outcome};
-ghost use Rattle.entries.specs.Inner.{WrittenIn};
 
-use super::returned::{Returned, finish, is_short, refuse};
-use policy_print::print::{Printed, print_text};
+use super::returned::{Returned, answer, is_short, refuse};
+use policy_print::print::print_text;
 use policy_print::{builtin, print};
 use refusal::Refusal;
-
-// Hands back the text that was printed to output, or the refusal.
-fn answer(printed: Printed, output: &mut [u8], scratch: &mut [u8]) -> Returned
-    requires { WrittenIn (length output.old) printed }
-    ensures { (o : PolicyRead) (d : Text) → PrintedIs o d output.old printed → as_outcome result output.new scratch.new ≡ outcome (lent (length output.old) (length scratch.old)) (with_policy o Spec.printed_policy) }
-{
-    match printed {
-        Printed::Written(n) => finish(n, output, scratch),
-        Printed::Refused(refusal, line) => refuse(refusal, line, output, scratch),
-    }
-}
 
 // Reads a policy, and prints it to output.
 pub fn print(policy: &[u8], output: &mut [u8], scratch: &mut [u8]) -> Returned
     ensures { as_outcome result output.new scratch.new ≡ print_outcome (lent (length output.old) (length scratch.old)) policy.now }
 {
     if is_short(output.len(), scratch.len()) {
-        return refuse(Refusal::ShortBuffer, 0, output, scratch);
+        return refuse(Refusal::ShortBuffer.into(), output, scratch);
     }
     let printed = print_text(policy, output);
     answer(printed, output, scratch)
@@ -40,7 +24,7 @@ pub fn append(first: &[u8], second: &[u8], output: &mut [u8], scratch: &mut [u8]
     ensures { as_outcome result output.new scratch.new ≡ append_outcome (lent (length output.old) (length scratch.old)) first.now second.now }
 {
     if is_short(output.len(), scratch.len()) {
-        return refuse(Refusal::ShortBuffer, 0, output, scratch);
+        return refuse(Refusal::ShortBuffer.into(), output, scratch);
     }
     let printed = print::append(first, second, output);
     answer(printed, output, scratch)
@@ -51,7 +35,7 @@ pub fn builtin(number: u64, output: &mut [u8], scratch: &mut [u8]) -> Returned
     ensures { as_outcome result output.new scratch.new ≡ builtin_outcome (lent (length output.old) (length scratch.old)) number }
 {
     if is_short(output.len(), scratch.len()) {
-        return refuse(Refusal::ShortBuffer, 0, output, scratch);
+        return refuse(Refusal::ShortBuffer.into(), output, scratch);
     }
     let printed = builtin::builtin(number, output);
     answer(printed, output, scratch)

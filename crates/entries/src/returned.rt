@@ -1,16 +1,16 @@
 // What every entry hands back: its buffers zeroed for a refusal, or a text and a report with zeros behind them.
-ghost use Rattle.std.specs.Prelude.{◌≡◌, ◌≤◌, length, take};
+ghost use Rattle.std.specs.Prelude.{◌≡◌, ◌≤◌, length, take, IfOk};
 ghost use Rattle.text.specs.Text.{Text, zeroed};
 ghost use Rattle.run_model.specs.Redact.{print_rows};
 ghost use Rattle.run_model.specs.Entries.{Redaction, outcome, outcome_with_report, done, refused, is_short};
 ghost use Rattle.entries.specs.Returned.{lent, lent_report, as_outcome, as_redact_outcome};
-ghost use Rattle.entries.specs.Inner.{with_report};
+ghost use Rattle.entries.specs.Inner.{answer_of, with_report};
 
 use refusal::limits::TEXT_MAX;
-use refusal::{Refusal, number};
+use refusal::{Refused, number};
 use text::bytes::zero_from;
 
-// What a call of print, append, built-in or payload hands back beside its buffers: number, line, and the text's length.
+// What a call of print, append, built-in or payload hands back beside its buffers: number, line, and the text's length, as C gets them.
 #[derive(Clone, Copy)]
 pub struct Returned {
     pub number: u32,
@@ -45,13 +45,13 @@ fn zero_behind(output: &mut [u8], n: usize, scratch: &mut [u8])
 }
 
 // Zeros the buffers, and hands back the refusal's number and line.
-pub fn refuse(refusal: Refusal, line: usize, output: &mut [u8], scratch: &mut [u8]) -> Returned
-    ensures { as_outcome result output.new scratch.new ≡ outcome (lent (length output.old) (length scratch.old)) (refused refusal line) }
+pub fn refuse(fault: Refused, output: &mut [u8], scratch: &mut [u8]) -> Returned
+    ensures { as_outcome result output.new scratch.new ≡ outcome (lent (length output.old) (length scratch.old)) (refused fault.refusal fault.line) }
 {
     zero_behind(output, 0, scratch);
     Returned {
-        number: number(refusal),
-        line: line as u64,
+        number: number(fault.refusal),
+        line: fault.line as u64,
         text_len: 0,
     }
 }
@@ -66,6 +66,21 @@ pub fn finish(text_len: usize, output: &mut [u8], scratch: &mut [u8]) -> Returne
         number: 0,
         line: 0,
         text_len: text_len as u64,
+    }
+}
+
+// Hands back the text of that length that was written to output, or the refusal.
+pub(crate) fn answer(
+    written: Result<usize, Refused>,
+    output: &mut [u8],
+    scratch: &mut [u8],
+) -> Returned
+    requires { IfOk written (λ n. n ≤ length output.old) }
+    ensures { as_outcome result output.new scratch.new ≡ outcome (lent (length output.old) (length scratch.old)) (answer_of output.old written) }
+{
+    match written {
+        Ok(text_len) => finish(text_len, output, scratch),
+        Err(fault) => refuse(fault, output, scratch),
     }
 }
 
@@ -84,16 +99,15 @@ fn with_report(r: Returned, report_len: usize, rows: usize) -> ReturnedReport
 
 // The same two for redact, which is lent a report.
 pub fn refuse_report(
-    refusal: Refusal,
-    line: usize,
+    fault: Refused,
     output: &mut [u8],
     report: &mut [u8],
     scratch: &mut [u8],
 ) -> ReturnedReport
-    ensures { as_redact_outcome result output.new report.new scratch.new ≡ outcome_with_report (lent_report (length output.old) (length report.old) (length scratch.old)) (refused refusal line) }
+    ensures { as_redact_outcome result output.new report.new scratch.new ≡ outcome_with_report (lent_report (length output.old) (length report.old) (length scratch.old)) (refused fault.refusal fault.line) }
 {
     zero_from(report, 0);
-    with_report(refuse(refusal, line, output, scratch), 0, 0)
+    with_report(refuse(fault, output, scratch), 0, 0)
 }
 
 pub fn finish_report(

@@ -2,7 +2,8 @@
 use mathlib.Core.Path.{◌≡◌, refl, sym, ap, ◌∙◌, subst}
 use mathlib.Core.Bool.{Bool, true, false}
 use mathlib.Core.List.{[], ◌∷◌, ◌++◌, append-nil, append_assoc}
-use mathlib.Core.Option.{Option, none, some}
+use Rattle.std.proofs.Math.Option.{Option, none, some}
+use Rattle.std.proofs.Common as Std
 use Prim.Native.Nat.{ℕ, suc, ◌+◌, ◌≤◌, ◌<◌, ◌^◌}
 use native.Mathlib.Omega.{arith}
 use borrow.Author.Tests.{eqb-false, ne_eqb, not-true}
@@ -15,8 +16,6 @@ use Rattle.text.proofs.Laws.{by_cond, zero_or, Maybe}
 use Rattle.text.proofs.Runs.{stop, run_all, rest_all, all_run, run_rest, run_rest_length}
 use Rattle.text.proofs.Decimals.{OfTaken, NumberFrom, number_from, number_back}
 use Rattle.er7.specs.declared.path.Path.{Path as HeldPath}
-use Rattle.er7.specs.declared.path.ParsedPath.{ParsedPath}
-use Rattle.er7.specs.declared.path.ParsedPath.TheVariants.{Parsed}
 use Rattle.er7.specs.Path.{Path, not_zero, take_index, close_bracket, take_occurrence, take_step, then, complete, read_subcomponent, read_component, read_repetition, read_field, read_segment, is_join, read_path, in_brackets, behind, print_path, as_path, PathHeld, held_as, held_path}
 use Rattle.er7.proofs.PrintedPaths.{brackets_none, brackets_some, brackets_length, behind_none, behind_some, behind_length}
 
@@ -291,11 +290,11 @@ held_stands t s i p w e =
     rw k
 
 -- and its name lies in that text
-pub parsed_held : (t s : Text) (i : ℕ) (a : ParsedPath) (h : HeldPath) → i + length s ≤ length t → a ≡ held_path i (length (run is_alphanumeric s)) (read_path s) → a ≡ Parsed h
+pub parsed_held : (t s : Text) (i : ℕ) (a : Std.Option HeldPath) (h : HeldPath) → i + length s ≤ length t → a ≡ held_path i (length (run is_alphanumeric s)) (read_path s) → a ≡ Std.Some h
     → PathHeld t h
 parsed_held t s i a h l e f = go (read_path s) (sym f ∙ e)
   where
-    go : (o : Option Path) → Parsed h ≡ held_path i (length (run is_alphanumeric s)) o → PathHeld t h
+    go : (o : Option Path) → Std.Some h ≡ held_path i (length (run is_alphanumeric s)) o → PathHeld t h
     go none q = unfold held_path in let z : ◌≡◌ {A = ℕ} 0 1 = cc in absurd (omega arith)
     go (some p) q = unfold held_path held_as in
         let k = run_rest_length is_alphanumeric s in

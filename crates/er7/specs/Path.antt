@@ -4,8 +4,7 @@ use Rattle.std.proofs.Math.Option.{Option, none, some}
 use Rattle.text.specs.Text.{Text, is_alphanumeric, is_empty, run, rest, part}
 use Rattle.text.specs.Number.{decimal, Taken, taken, refused, take_number}
 use Rattle.er7.specs.declared.path.Path.{Path as HeldPath}
-use Rattle.er7.specs.declared.path.ParsedPath.{ParsedPath}
-use Rattle.er7.specs.declared.path.ParsedPath.TheVariants.{Parsed, BadPath}
+use Rattle.std.specs.Prelude as Std
 
 -- the term "path": its segment's name as text, and five indices; 0 is an index that is absent ("0 is never an index")
 pub record Path : Type 0 where
@@ -122,6 +121,6 @@ held_as i n p = record {
   subcomponent = p.subcomponent;
 }
 
-unfoldable pub held_path : ℕ → ℕ → Option Path → ParsedPath
-held_path i n none = BadPath
-held_path i n (some p) = Parsed (held_as i n p)
+unfoldable pub held_path : ℕ → ℕ → Option Path → Std.Option HeldPath
+held_path i n none = Std.None
+held_path i n (some p) = Std.Some (held_as i n p)

@@ -6,7 +6,7 @@ ghost use Rattle.er7.specs.Path.{take_index, close_bracket, take_occurrence, tak
 ghost use Rattle.er7.specs.Inner.{ParsedAt};
 
 use text::bytes::{Class, byte_at, copy_at, run_end};
-use text::decimal::{Number, decimal_at, decimal_len, number_at};
+use text::decimal::{decimal_at, decimal_len, number_at};
 
 // A path: its segment's name, which is segment_len bytes of a text from index segment on, and five indices, 0 where one is absent.
 #[derive(Clone, Copy)]
@@ -20,134 +20,98 @@ pub struct Path {
     pub subcomponent: u64,
 }
 
-#[derive(Clone, Copy)]
-pub enum ParsedPath {
-    Parsed(Path),
-    BadPath,
-}
-
 // A number other than 0.
-fn take_index(s: &[u8], i: usize) -> Number
+fn take_index(s: &[u8], i: usize) -> Option<(u64, usize)>
     requires { i ≤ length s.now }
     ensures { TakenAt take_index s.now i result }
 {
-    match number_at(s, i) {
-        Number::At(index, r) => {
-            if index == 0 {
-                return Number::Refused;
-            }
-            Number::At(index, r)
-        }
-        Number::Refused => Number::Refused,
+    let (index, r) = number_at(s, i)?;
+    if index == 0 {
+        return None;
     }
+    Some((index, r))
 }
 
 // `]` behind a number n, from index r on.
-fn close_bracket(s: &[u8], n: u64, r: usize) -> Number
+fn close_bracket(s: &[u8], n: u64, r: usize) -> Option<(u64, usize)>
     requires { r ≤ length s.now }
     ensures { TakenAt (λ t. close_bracket (taken n t)) s.now r result }
 {
     if r == s.len() {
-        return Number::Refused;
+        return None;
     }
     if s[r] != b']' {
-        return Number::Refused;
+        return None;
     }
-    Number::At(n, r + 1)
+    Some((n, r + 1))
 }
 
 // `[n]`, or nothing.
-fn take_occurrence(s: &[u8], i: usize) -> Number
+fn take_occurrence(s: &[u8], i: usize) -> Option<(u64, usize)>
     requires { i ≤ length s.now }
     ensures { TakenAt take_occurrence s.now i result }
 {
     if i == s.len() {
-        return Number::At(0, i);
+        return Some((0, i));
     }
     if s[i] != b'[' {
-        return Number::At(0, i);
+        return Some((0, i));
     }
-    match take_index(s, i + 1) {
-        Number::At(n, r) => close_bracket(s, n, r),
-        Number::Refused => Number::Refused,
-    }
+    let (n, r) = take_index(s, i + 1)?;
+    close_bracket(s, n, r)
 }
 
 // `.n`, or nothing.
-fn take_step(s: &[u8], i: usize) -> Number
+fn take_step(s: &[u8], i: usize) -> Option<(u64, usize)>
     requires { i ≤ length s.now }
     ensures { TakenAt take_step s.now i result }
 {
     if i == s.len() {
-        return Number::At(0, i);
+        return Some((0, i));
     }
     if s[i] != b'.' {
-        return Number::At(0, i);
+        return Some((0, i));
     }
     take_index(s, i + 1)
 }
 
 // The path from its subcomponent on; the last part, behind which nothing is left.
-fn read_subcomponent(s: &[u8], i: usize, p: Path) -> ParsedPath
+fn read_subcomponent(s: &[u8], i: usize, p: Path) -> Option<Path>
     requires { i ≤ length s.now }
     ensures { ParsedAt (λ w. read_subcomponent w p.segment_occurrence p.field p.repetition p.component) s.now i p.segment p.segment_len result }
 {
-    match take_step(s, i) {
-        Number::At(n, r) => {
-            if r == s.len() {
-                let mut q = p;
-                q.subcomponent = n;
-                return ParsedPath::Parsed(q);
-            }
-            ParsedPath::BadPath
-        }
-        Number::Refused => ParsedPath::BadPath,
+    let (subcomponent, r) = take_step(s, i)?;
+    if r != s.len() {
+        return None;
     }
+    Some(Path { subcomponent, ..p })
 }
 
 // The path from its component on.
-fn read_component(s: &[u8], i: usize, p: Path) -> ParsedPath
+fn read_component(s: &[u8], i: usize, p: Path) -> Option<Path>
     requires { i ≤ length s.now }
     ensures { ParsedAt (λ w. read_component w p.segment_occurrence p.field p.repetition) s.now i p.segment p.segment_len result }
 {
-    match take_step(s, i) {
-        Number::At(n, r) => {
-            let mut q = p;
-            q.component = n;
-            read_subcomponent(s, r, q)
-        }
-        Number::Refused => ParsedPath::BadPath,
-    }
+    let (component, r) = take_step(s, i)?;
+    read_subcomponent(s, r, Path { component, ..p })
 }
 
 // The path from its field's repetition on.
-fn read_repetition(s: &[u8], i: usize, p: Path) -> ParsedPath
+fn read_repetition(s: &[u8], i: usize, p: Path) -> Option<Path>
     requires { i ≤ length s.now }
     ensures { ParsedAt (λ w. read_repetition w p.segment_occurrence p.field) s.now i p.segment p.segment_len result }
 {
-    match take_occurrence(s, i) {
-        Number::At(n, r) => {
-            let mut q = p;
-            q.repetition = n;
-            read_component(s, r, q)
-        }
-        Number::Refused => ParsedPath::BadPath,
-    }
+    let (repetition, r) = take_occurrence(s, i)?;
+    read_component(s, r, Path { repetition, ..p })
 }
 
 // The path from its field on.
-fn read_field(s: &[u8], i: usize, p: Path) -> ParsedPath
+fn read_field(s: &[u8], i: usize, p: Path) -> Option<Path>
     requires { i ≤ length s.now }
     ensures { ParsedAt (λ w. read_field w p.segment_occurrence) s.now i p.segment p.segment_len result }
 {
-    match take_index(s, i) {
-        Number::At(n, r) => {
-            let mut q = p;
-            q.field = n;
-            read_repetition(s, r, q)
-        }
-        Number::Refused => ParsedPath::BadPath,
-    }
+    let (field, r) = take_index(s, i)?;
+    read_repetition(s, r, Path { field, ..p })
 }
 
 fn is_join(b: u8) -> bool
@@ -157,7 +121,7 @@ fn is_join(b: u8) -> bool
 }
 
 // The path behind its segment's name, n bytes at index base, and its occurrence.
-fn read_segment(s: &[u8], i: usize, base: usize, n: usize, occurrence: u64) -> ParsedPath
+fn read_segment(s: &[u8], i: usize, base: usize, n: usize, occurrence: u64) -> Option<Path>
     requires { i ≤ length s.now }
     ensures { ParsedAt (λ w. read_segment w occurrence) s.now i base n result }
 {
@@ -171,26 +135,24 @@ fn read_segment(s: &[u8], i: usize, base: usize, n: usize, occurrence: u64) -> P
         subcomponent: 0,
     };
     if i == s.len() {
-        return ParsedPath::Parsed(p);
+        return Some(p);
     }
     if !is_join(s[i]) {
-        return ParsedPath::BadPath;
+        return None;
     }
     read_field(s, i + 1, p)
 }
 
 // Reads the word s, which stands in a text from index base on, as a path.
-pub fn parse(s: &[u8], base: usize) -> ParsedPath
+pub fn parse(s: &[u8], base: usize) -> Option<Path>
     ensures { result ≡ held_path base (length (run is_alphanumeric s.now)) (read_path s.now) }
 {
     let n = run_end(s, 0, Class::Alphanumeric);
     if n == 0 {
-        return ParsedPath::BadPath;
+        return None;
     }
-    match take_occurrence(s, n) {
-        Number::At(occurrence, r) => read_segment(s, r, base, n, occurrence),
-        Number::Refused => ParsedPath::BadPath,
-    }
+    let (occurrence, r) = take_occurrence(s, n)?;
+    read_segment(s, r, base, n, occurrence)
 }
 
 // Writes `[n]`, or nothing if n is 0, to out from index at on, and returns the index behind it.

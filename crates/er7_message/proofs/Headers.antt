@@ -1,55 +1,38 @@
 -- Laws of headers. Assumes nothing.
-use mathlib.Core.Path.{◌≡◌, refl, sym, ◌∙◌}
-use mathlib.Core.Bool.{Bool, true, false, not, ◌&&◌}
-use mathlib.Core.List.{[], ◌∷◌}
-use Prim.Native.Nat.{ℕ, ◌≤◌, ◌<◌}
-use native.Mathlib.Omega.{arith}
-use borrow.Author.Tests.{lt-leb, le-leb, eq-eqb, ne_eqb}
-use lib.Dec.{eqb}
-use lib.ListN.{length, take, drop, get_or}
-use lib.Seq.{drop-cons}
-use Rattle.text.specs.Text.{Text, bytes, same}
-use Rattle.message_model.specs.Message.{may_delimit, absent, may_delimit_all, is_header}
+use Rattle.std.proofs.Common.{◌≡◌, refl, sym, Bool, true, false, not, ◌&&◌, ◌||◌, [], ◌∷◌, ℕ, ◌+◌, ◌≤◌, ◌<◌, length, drop, get_or, eqb, ne_eqb, drop_of_length-le}
+use Rattle.std.specs.List.{list_any}
+use mathlib.Core.Logic.{dite}
+use native.Mathlib.Decide.{ℕ_discrete}
+use Rattle.text.specs.Text.{Text}
+use Rattle.text.proofs.Runs.{drop_step}
+use Rattle.message_model.specs.Message.{may_delimit, absent, may_delimit_all}
 
 pub and_end : (b : Bool) → b && true ≡ b
 and_end true = refl
 and_end false = refl
 
--- five tests, each of a byte and of those behind it
-module _ (a b c d e : ℕ) {p q r s t : Bool} where
-  pub all_five : p ≡ may_delimit a → q ≡ may_delimit b → r ≡ may_delimit c → s ≡ may_delimit d → t ≡ may_delimit e
-      → (p && (not (eqb a b) && (not (eqb a c) && (not (eqb a d) && not (eqb a e)))))
-      && ((q && (not (eqb b c) && (not (eqb b d) && not (eqb b e))))
-      && ((r && (not (eqb c d) && not (eqb c e)))
-      && ((s && not (eqb d e)) && t)))
-      ≡ may_delimit_all (a ∷ b ∷ c ∷ d ∷ e ∷ [])
-  unfolding may_delimit_all absent
-  all_five u v w x y =
-      rw (u, v, w, x, y, and_end (not (eqb a e)), and_end (not (eqb b e)), and_end (not (eqb c e)), and_end (not (eqb d e)), and_end (may_delimit e), and_end (may_delimit e))
+eqb_comm : (x y : ℕ) → eqb y x ≡ eqb x y
+eqb_comm x y = dite (ℕ_discrete x y) (λ e. rw e) (λ ne. rw (ne_eqb x y ne, ne_eqb y x (λ e. ne (sym e))))
 
--- ---- the tests in their order
-module _ (l : Text) where
-  five : 8 ≤ length l → take 5 (drop 3 l) ≡ get_or l 3 0 ∷ get_or l 4 0 ∷ get_or l 5 0 ∷ get_or l 6 0 ∷ get_or l 7 0 ∷ []
-  five h = rw (drop-cons l 3 0 (omega arith), drop-cons l 4 0 (omega arith), drop-cons l 5 0 (omega arith), drop-cons l 6 0 (omega arith), drop-cons l 7 0 (omega arith))
+not_or : (a b : Bool) → not (a || b) ≡ not a && not b
+not_or true b = refl
+not_or false b = refl
 
-  pub header_short : length l < 8 → false ≡ is_header l
-  unfolding is_header
-  header_short h = rw (lt-leb 8 (length l) h)
+absent_any : (x : ℕ) (xs : Text) → not (list_any (λ y. eqb y x) xs) ≡ absent x xs
+unfolding absent
+absent_any x [] = refl
+absent_any x (y ∷ xs) = rw (not_or, eqb_comm, absent_any x xs)
 
-  module _ (h : 8 ≤ length l) {m : Bool} (p : m ≡ same (take 3 l) (bytes "MSH")) where
-    pub header_name : m ≡ false → false ≡ is_header l
-    unfolding is_header
-    header_name e = rw (le-leb 8 (length l) h, sym p ∙ e)
+module _ (t : Text) (i : ℕ) (h : i < length t) {b : Bool}
+    (e : b ≡ may_delimit (get_or t i 0) && not (list_any (λ y. eqb y (get_or t i 0)) (drop (i + 1) t))) where
+  pub delimits_not : b ≡ false → may_delimit_all (drop i t) ≡ false
+  unfolding may_delimit_all
+  delimits_not f = rw (drop_step t i h, ← absent_any, ← e, f)
 
-    module _ {d : Bool} (q : d ≡ may_delimit_all (get_or l 3 0 ∷ get_or l 4 0 ∷ get_or l 5 0 ∷ get_or l 6 0 ∷ get_or l 7 0 ∷ [])) (e : m ≡ true) where
-      pub header_delimiters : d ≡ false → false ≡ is_header l
-      unfolding is_header
-      header_delimiters f = rw (le-leb 8 (length l) h, sym p ∙ e, five h, sym q ∙ f)
+  pub delimits_more : b ≡ true → may_delimit_all (drop i t) ≡ may_delimit_all (drop (i + 1) t)
+  unfolding may_delimit_all
+  delimits_more f = rw (drop_step t i h, ← absent_any, ← e, f)
 
-      pub header_bare : d ≡ true → length l ≡ 8 → true ≡ is_header l
-      unfolding is_header
-      header_bare f z = rw (le-leb 8 (length l) h, sym p ∙ e, five h, sym q ∙ f, eq-eqb (length l) 8 z)
-
-      pub header_field : d ≡ true → (length l ≡ 8 → ⊥) → eqb (get_or l 8 0) (get_or l 3 0) ≡ is_header l
-      unfolding is_header
-      header_field f z = rw (le-leb 8 (length l) h, sym p ∙ e, five h, sym q ∙ f, ne_eqb (length l) 8 z)
+pub delimits_end : (t : Text) (i : ℕ) → length t ≤ i → may_delimit_all (drop i t) ≡ true
+unfolding may_delimit_all
+delimits_end t i h = rw (drop_of_length-le t {i = i} h)

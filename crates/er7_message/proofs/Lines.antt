@@ -1,43 +1,44 @@
 -- Laws of lines. Assumes nothing.
-use mathlib.Core.Path.{◌≡◌, ◌∙◌}
-use mathlib.Core.List.{List, [], ◌∷◌}
+use Rattle.std.proofs.Common.{◌≡◌, refl, ◌∙◌, Bool, true, false, not, List, [], ◌∷◌, ◌++◌, ℕ, ◌+◌, ◌-◌, ◌≤◌, ◌<◌, length, take, drop, get_or, arith, one-add, append-nil, append_assoc, length-drop, drop-drop, get_or-drop, drop_of_length-le, eq-eqb, eqb-true}
+use Rattle.std.proofs.lemmas.List.Sums.{prefix_len-le-length, passes_at_first}
+use Rattle.std.specs.List.{position_or_len}
 use mathlib.Core.Logic.{dite}
-use Prim.Native.Nat.{ℕ, ◌+◌, ◌-◌, ◌≤◌, ◌<◌}
 use native.Mathlib.Decide.{ℕ_discrete}
-use native.Mathlib.Omega.{arith}
-use borrow.Author.Tests.{eq-eqb, ne_eqb}
-use lib.ListN.{length, drop, get_or, drop_of_length-le}
+use lib.Dec.{eqb}
 use Rattle.text.specs.Text.{Text, part}
-use Rattle.text.proofs.Runs.{drop_step, part_more}
+use Rattle.text.proofs.Runs.{drop_step}
 use Rattle.message_model.specs.Message.{segment_lines}
 use Rattle.er7_message.specs.Inner.{line, LineEnd}
 
--- ---- the line that begins at index i has come to index j
+-- ---- one line: the bytes before the first CR
 
-pub record Running (t : Text) (i j : ℕ) : Type 0 where
-  pub low : i ≤ j
-  pub high : j ≤ length t
-  pub runs : segment_lines [] (drop i t) ≡ segment_lines (line t i j) (drop j t)
+abbrev is_cr : ℕ → Bool
+is_cr b = eqb b 0x0d
 
-pub running_start : (t : Text) (i : ℕ) → i ≤ length t → Running t i i
+line_front : (w t : Text) → segment_lines w t ≡ segment_lines (w ++ take (position_or_len is_cr t) t) (drop (position_or_len is_cr t) t)
+unfolding segment_lines
+line_front w [] = rw append-nil
+line_front w (x ∷ t) = go (is_cr x) refl (line_front (w ++ x ∷ []) t)
+  where
+    go : (b : Bool) → is_cr x ≡ b
+        → segment_lines (w ++ x ∷ []) t ≡ segment_lines (w ++ x ∷ [] ++ take (position_or_len is_cr t) t) (drop (position_or_len is_cr t) t)
+        → segment_lines w (x ∷ t) ≡ segment_lines (w ++ take (position_or_len is_cr (x ∷ t)) (x ∷ t)) (drop (position_or_len is_cr (x ∷ t)) (x ∷ t))
+    go true e more = rw (e, append-nil, e)
+    go false e more = rw (e, one-add) (more ∙ rw append_assoc)
+
+pub line_ends : (t : Text) (i n : ℕ) → i ≤ length t → n ≡ position_or_len is_cr (drop i t) → LineEnd t i (i + n)
 unfolding line part
-running_start t i h = let z : i - i ≡ 0 = omega arith in record { low = omega arith; high = h; runs = rw z }
-
-module _ {t : Text} {i j : ℕ} (g : Running t i j) where
-  pub running_more : j < length t → (get_or t j 0 ≡ 0x0d → ⊥) → Running t i (j + 1)
-  unfolding line segment_lines
-  running_more h ne =
-      let n : j + 1 - i ≡ j - i + 1 = omega (arith, g.low) in record {
-        low = omega (arith, g.low);
-        high = omega arith;
-        runs = g.runs ∙ rw (drop_step t j h, ne_eqb (get_or t j 0) 0x0d ne, n, part_more t i (j - i) j (omega (arith, g.low)) h);
-      }
-
-  pub running_stop : get_or t j 0 ≡ 0x0d → LineEnd t i j
-  running_stop e = record { low = g.low; high = g.high; runs = g.runs; stops = λ _. e }
-
-  pub running_end : length t ≤ j → LineEnd t i j
-  running_end h = record { low = g.low; high = g.high; runs = g.runs; stops = λ k. absurd (omega arith) }
+line_ends t i n h e =
+    let z : i + n - i ≡ n = omega arith in
+    let most : n ≤ length t - i = rw e (rw length-drop at (prefix_len-le-length (λ b. not (is_cr b)) (drop i t))) in
+    record {
+      low = omega arith;
+      high = omega (arith, most);
+      runs = rw (z, ← drop-drop n i t) (rw e (line_front [] (drop i t)));
+      stops = λ l.
+          let inside : position_or_len is_cr (drop i t) < length (drop i t) = rw (length-drop, ← e) (omega arith) in
+          rw e (eqb-true _ _ (rw get_or-drop at (passes_at_first is_cr (drop i t) 0 inside)));
+    }
 
 -- ---- the line that begins at index i, and the lines behind it
 

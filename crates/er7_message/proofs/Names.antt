@@ -5,25 +5,17 @@ use mathlib.Core.List.{List, [], ◌∷◌, ◌++◌}
 use Prim.Native.Nat.{ℕ, suc, ◌+◌, ◌-◌, ◌≤◌, ◌<◌}
 use native.Mathlib.Numerals.{add-one}
 use native.Mathlib.Omega.{arith}
-use borrow.Author.Tests.{lt-leb, le-leb, eq-eqb, ne_eqb}
 use lib.Dec.{eqb}
-use lib.ListN.{length, take, get_or}
+use lib.ListN.{length, get_or}
+use Rattle.std.specs.List.{list_all}
 use Rattle.text.specs.Text.{Text, same, all}
 use Rattle.text.proofs.Words.{same_eq}
 use Rattle.text.proofs.Laws.{by_cond}
-use Rattle.er7.specs.declared.separators.Separators.{Separators}
-use Rattle.message_model.specs.Message.{is_header_name, ends_in_cr, is_name_byte, is_name, is_named, count}
+use Rattle.message_model.specs.Message.{is_header_name, is_name_byte, is_name, count}
 use Rattle.er7_table.specs.Table.{cell, list_of, name_at}
 use Rattle.er7_table.proofs.Laws.{list_append, list_length}
 use Rattle.er7_message.specs.Inner.{names, Numbered}
 use Rattle.er7_message.proofs.Headers.{and_end}
-
--- ---- the last CR
-
-pub cr_empty : (t : Text) → length t ≡ 0 → false ≡ ends_in_cr t
-unfolding ends_in_cr
-cr_empty [] h = refl
-cr_empty (x ∷ t) h = absurd (omega arith)
 
 -- ---- names
 
@@ -34,35 +26,14 @@ three_bytes (a ∷ b ∷ []) h = absurd (omega arith)
 three_bytes (a ∷ b ∷ c ∷ []) h = refl
 three_bytes (a ∷ b ∷ c ∷ d ∷ n) h = absurd (omega arith)
 
-all_three : (p : ℕ → Bool) (a b c : ℕ) → all p (a ∷ b ∷ c ∷ []) ≡ p a && (p b && p c)
+all_list : (p : ℕ → Bool) (n : Text) → list_all p n ≡ all p n
 unfolding all
-all_three p a b c = rw (and_end (p c))
+all_list p [] = refl
+all_list p (x ∷ n) = ap (λ (b : Bool). p x && b) (all_list p n)
 
-pub name_is : (n : Text) → length n ≡ 3 → {p q r x : Bool} → p ≡ is_name_byte (get_or n 0 0) → q ≡ is_name_byte (get_or n 1 0) → r ≡ is_name_byte (get_or n 2 0)
-    → x ≡ is_header_name (get_or n 0 0 ∷ get_or n 1 0 ∷ get_or n 2 0 ∷ []) → p && (q && r) && not x ≡ is_name n
+pub name_is : (n : Text) → length n ≡ 3 → is_name n ≡ list_all is_name_byte n && not (is_header_name (get_or n 0 0 ∷ get_or n 1 0 ∷ get_or n 2 0 ∷ []))
 unfolding is_name
-name_is n h e1 e2 e3 e4 =
-    rw (e1, e2, e3, e4)
-    (sym (ap (λ (m : Text). all is_name_byte m && not (is_header_name m)) (three_bytes n h)
-    ∙ rw (all_three is_name_byte (get_or n 0 0) (get_or n 1 0) (get_or n 2 0))))
-
-module _ (s : Separators) (l : Text) where
-  pub named_short : length l < 3 → false ≡ is_named s l
-  unfolding is_named
-  named_short h = rw (lt-leb 3 (length l) h)
-
-  module _ (h : 3 ≤ length l) {b : Bool} (p : b ≡ is_name (take 3 l)) where
-    pub named_not : b ≡ false → false ≡ is_named s l
-    unfolding is_named
-    named_not e = rw (le-leb 3 (length l) h, sym p ∙ e)
-
-    pub named_bare : b ≡ true → length l ≡ 3 → true ≡ is_named s l
-    unfolding is_named
-    named_bare e z = rw (le-leb 3 (length l) h, sym p ∙ e, eq-eqb (length l) 3 z)
-
-    pub named_field : b ≡ true → (length l ≡ 3 → ⊥) → eqb (get_or l 3 0) s.field ≡ is_named s l
-    unfolding is_named
-    named_field e z = rw (le-leb 3 (length l) h, sym p ∙ e, ne_eqb (length l) 3 z)
+name_is n h = rw (all_list, ← three_bytes n h)
 
 -- ---- occurrences
 

@@ -21,7 +21,7 @@ use Rattle.message_model.specs.Message.{Label, Segment, segment, Message, leaves
 use Rattle.er7_table.specs.Filling.{LeafRoom}
 use Rattle.er7_table.specs.Table.{cell, list_of, Good, Placed, first_leaf, name_at, label_at, segment_at, segments_from}
 use Rattle.er7_table.proofs.Laws.{list_snoc, list_ext, place_kept, leaves_kept, name_kept, label_kept, first_kept}
-use Rattle.er7_message.specs.declared.message.ParsedMessage.TheVariants.{Read, Refused}
+use Rattle.std.specs.Prelude.{Ok, Err}
 use Rattle.er7_message.specs.Parsed.{fault_of, ParsedAs}
 use Rattle.er7_message.specs.Inner.{line, LineEnd, fault_by, message_by, names, Numbered, SegmentFits, SegmentRead, Reading}
 use Rattle.er7_message.proofs.Lines.{line_last, line_next, line_some}
@@ -177,7 +177,7 @@ fault_too_many : (s : Separators) (k n : ℕ) (l : Text) (ls : List Text) → eq
 unfolding segments_fault
 fault_too_many s k n l ls e q = rw (e, q)
 
-refused : {t : Text} {f : Option Refusal} (e : Refusal) → f ≡ some e → (m : Message) (segs cells : List ℕ) → ParsedAs t f m segs cells (Refused e)
+refused : {t : Text} {f : Option Refusal} (e : Refusal) → f ≡ some e → (m : Message) (segs cells : List ℕ) → ParsedAs t f m segs cells (Err e)
 unfolding fault_of
 refused e q m segs cells = record { is = sym q; tables = tt }
 
@@ -190,7 +190,7 @@ order {s} {t} {segs} go i (suc j) h l =
     dite (ℕ_discrete i (suc j)) (λ q. rw q (omega arith)) (λ ne. omega (arith, order go i j (omega arith) (omega arith), rw y at (go.up j (omega arith))))
 
 pub reading_all : {s : Separators} {t : Text} {segs cells : List ℕ} {k n : ℕ} → Reading s t segs cells k n [] → 0 < k → (last : Bool)
-    → ParsedAs t (fault_by s t) (message_by s last t) segs cells (Read (record { separators = s; segments = k; leaves = n; last_cr = last }))
+    → ParsedAs t (fault_by s t) (message_by s last t) segs cells (Ok (record { separators = s; segments = k; leaves = n; last_cr = last }))
 unfolding fault_of message_by segments_fault segments
 reading_all {s} {t} {segs} {cells} {k} {n} go h last = record {
   is = sym go.fault;
@@ -208,37 +208,38 @@ reading_all {s} {t} {segs} {cells} {k} {n} go h last = record {
 
 -- ---- the line that begins at index i
 module _ {s : Separators} {t : Text} {segs cells : List ℕ} {k n i e : ℕ} (go : Reading s t segs cells k n (segment_lines [] (drop i t))) (g : LineEnd t i e) where
-  pub line_bad : eqb k 0 || is_named s (line t i e) ≡ false → (m : Message) (segs' cells' : List ℕ) → ParsedAs t (fault_by s t) m segs' cells' (Refused BadSegment)
+  pub line_bad : eqb k 0 || is_named s (line t i e) ≡ false → (m : Message) (segs' cells' : List ℕ) → ParsedAs t (fault_by s t) m segs' cells' (Err BadSegment)
   line_bad q m segs' cells' =
       let ls = line_some g in
       refused BadSegment (go.fault ∙ ap (segments_fault s k n) ls.1 ∙ fault_bad s k n (line t i e) ls.0 q) m segs' cells'
 
-  module _ (q : eqb k 0 || is_named s (line t i e) ≡ true) {segs' cells' : List ℕ} {r : ℕ} (w : SegmentRead s t (line t i e) e k n segs cells segs' cells' r) where
-    pub line_too_many : LEAVES_MAX < r → (m : Message) (segs'' cells'' : List ℕ) → ParsedAs t (fault_by s t) m segs'' cells'' (Refused TooMany)
-    line_too_many h m segs'' cells'' =
+  module _ (q : eqb k 0 || is_named s (line t i e) ≡ true) {segs' cells' : List ℕ} where
+    pub line_too_many : (f : Refusal) → SegmentRead s t (line t i e) e k n segs cells segs' cells' (Err f) → (m : Message) (segs'' cells'' : List ℕ)
+        → ParsedAs t (fault_by s t) m segs'' cells'' (Err f)
+    line_too_many f w m segs'' cells'' =
         let ls = line_some g in
-        refused TooMany (go.fault ∙ ap (segments_fault s k n) ls.1 ∙ fault_too_many s k n (line t i e) ls.0 q (w.too_many h)) m segs'' cells''
+        rw w.too_many.0 (refused TooMany (go.fault ∙ ap (segments_fault s k n) ls.1 ∙ fault_too_many s k n (line t i e) ls.0 q w.too_many.1) m segs'' cells'')
 
-    module _ (h : r ≤ LEAVES_MAX) (room : LeafRoom cells' (length t)) where
+    module _ {r : ℕ} (w : SegmentRead s t (line t i e) e k n segs cells segs' cells' (Ok r)) (room : LeafRoom cells' (length t)) where
       pub line_on : e < length t → Reading s t segs' cells' (k + 1) r (segment_lines [] (drop (e + 1) t))
-      line_on x = reading_more (rw (line_next g x) at go) (w.fitted h) h (omega (arith, w.few h, g.high)) q room
+      line_on x = reading_more (rw (line_next g x) at go) w.fitted w.most (omega (arith, w.few, g.high)) q room
 
-      pub line_done : e ≡ length t → (last : Bool) → ParsedAs t (fault_by s t) (message_by s last t) segs' cells' (Read (record { separators = s; segments = k + 1; leaves = r; last_cr = last }))
-      line_done x last = reading_all (reading_more (rw (line_last g x) at go) (w.fitted h) h (omega (arith, w.few h, g.high)) q room) (omega arith) last
+      pub line_done : e ≡ length t → (last : Bool) → ParsedAs t (fault_by s t) (message_by s last t) segs' cells' (Ok (record { separators = s; segments = k + 1; leaves = r; last_cr = last }))
+      line_done x last = reading_all (reading_more (rw (line_last g x) at go) w.fitted w.most (omega (arith, w.few, g.high)) q room) (omega arith) last
 
 -- a line behind the header is judged by its name
 pub judged : (k : ℕ) → 1 ≤ k → (b : Bool) {c d : Bool} → c ≡ b → c ≡ d → eqb k 0 || b ≡ d
 judged k h b e f = rw (ne_eqb k 0 (λ q. absurd (omega arith))) (sym e ∙ f)
 
 -- ---- the header, which is the first line
-module _ {s : Separators} {t : Text} {segs cells segs' cells' : List ℕ} {e r : ℕ} (g : LineEnd t 0 e) (w : SegmentRead s t (line t 0 e) e 0 0 segs cells segs' cells' r)
-    (room : LeafRoom cells (length t)) where
-  pub header_too_many : LEAVES_MAX < r → (m : Message) (segs'' cells'' : List ℕ) → ParsedAs t (fault_by s t) m segs'' cells'' (Refused TooMany)
-  header_too_many h = line_too_many (reading_start s t segs cells room) g refl w h
+module _ {s : Separators} {t : Text} {segs cells segs' cells' : List ℕ} {e : ℕ} (g : LineEnd t 0 e) (room : LeafRoom cells (length t)) where
+  pub header_too_many : (f : Refusal) → SegmentRead s t (line t 0 e) e 0 0 segs cells segs' cells' (Err f) → (m : Message) (segs'' cells'' : List ℕ)
+      → ParsedAs t (fault_by s t) m segs'' cells'' (Err f)
+  header_too_many = line_too_many (reading_start s t segs cells room) g refl
 
-  module _ (h : r ≤ LEAVES_MAX) (room' : LeafRoom cells' (length t)) where
+  module _ {r : ℕ} (w : SegmentRead s t (line t 0 e) e 0 0 segs cells segs' cells' (Ok r)) (room' : LeafRoom cells' (length t)) where
     pub header_on : e < length t → Reading s t segs' cells' 1 r (segment_lines [] (drop (e + 1) t))
-    header_on x = line_on (reading_start s t segs cells room) g refl w h room' x
+    header_on x = line_on (reading_start s t segs cells room) g refl w room' x
 
-    pub header_done : e ≡ length t → (last : Bool) → ParsedAs t (fault_by s t) (message_by s last t) segs' cells' (Read (record { separators = s; segments = 1; leaves = r; last_cr = last }))
-    header_done x last = line_done (reading_start s t segs cells room) g refl w h room' x last
+    pub header_done : e ≡ length t → (last : Bool) → ParsedAs t (fault_by s t) (message_by s last t) segs' cells' (Ok (record { separators = s; segments = 1; leaves = r; last_cr = last }))
+    header_done x last = line_done (reading_start s t segs cells room) g refl w room' x last

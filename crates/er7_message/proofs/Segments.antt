@@ -22,6 +22,10 @@ use Rattle.er7_table.specs.Filling.{LeafPut, SegmentPut, Filled, LeavesRead}
 use Rattle.er7_table.proofs.Laws.{leaf_kept, place_kept}
 use Rattle.er7_table.proofs.Reading.{within_next, read_front}
 use Rattle.er7_message.specs.Inner.{line, names, SegmentRead}
+use Rattle.std.specs.Prelude.{Ok, Err}
+use Rattle.std.specs.declared.result.Result.{Result}
+use Rattle.refusal.specs.declared.Refusal.{Refusal}
+use Rattle.refusal.specs.declared.Refusal.TheVariants.{TooMany}
 use Rattle.refusal.specs.Limits.{LEAVES_MAX, SEGMENTS_MAX}
 
 -- ---- leaves behind a name or MSH-2
@@ -56,29 +60,28 @@ pub within_behind : (s : Separators) (x n i : ℕ) {p : Place} → p ≡ next s 
 within_behind s x n i e h k = rw e (within_next s x (in_field n) i (within_field n i h k))
 
 module _ (s : Separators) (t : Text) (from end field n : ℕ) (cells : List ℕ) where
-  pub behind_none : from ≡ end → n ≤ LEAVES_MAX → n < from → LeavesRead (leaves_behind s (at_field field) (drop from (take end t))) t end n cells cells n
+  pub behind_none : from ≡ end → n ≤ LEAVES_MAX → n < from → LeavesRead (leaves_behind s (at_field field) (drop from (take end t))) t end n cells cells (Ok n)
   unfolding leaves_behind leaves_from list_of
   behind_none e h a =
       let d : drop from (take end t) ≡ [] = drop_of_length-le (take end t) {i = from} (simp length-take (omega arith)) in
       let z : n - n ≡ 0 = omega arith in
       rw d (record {
-        fitted = λ _. record { count = omega arith; are = rw z; ends = λ i a b. absurd (omega arith); within = λ i a b. absurd (omega arith) };
-        few = λ _. omega arith;
-        too_many = λ k. absurd (omega arith);
+        fitted = record { count = omega arith; are = rw z; ends = λ i a b. absurd (omega arith); within = λ i a b. absurd (omega arith) };
+        few = omega arith;
         most = omega arith;
+        too_many = tt;
         before = λ _ _ _ _. refl;
       })
 
-  pub behind_some : from < end → end ≤ length t → {p : Place} → p ≡ next s (get_or t from 0) (in_field field) → {cells' : List ℕ} {r : ℕ}
-      → LeavesRead (leaves s p [] (drop (from + 1) (take (end - 0) t))) (take (end - 0) t) (length (take (end - 0) t)) n cells cells' r
+  pub behind_some : from < end → end ≤ length t → {p : Place} → p ≡ next s (get_or t from 0) (in_field field) → {cells' : List ℕ} (r : Result ℕ Refusal)
+      → LeavesRead (leaves s p [] (drop (from + 1) (take end t))) (take end t) (length (take end t)) n cells cells' r
       → LeavesRead (leaves_behind s (at_field field) (drop from (take end t))) t end n cells cells' r
   unfolding leaves_behind at_field
-  behind_some h l {p} e {cells'} {r} g =
-      let z : end - 0 ≡ end = omega arith in
+  behind_some h l {p} e {cells'} r g =
       let y : suc from ≡ from + 1 = omega arith in
       let d : drop from (take end t) ≡ get_or t from 0 ∷ drop (from + 1) (take end t) =
       slice-cons from end t 0 h l ∙ ap (λ (i : ℕ). get_or t from 0 ∷ drop i (take end t)) y in
-      rw d (read_front l (rw (z, e) at g))
+      rw d (read_front r l (rw e at g))
 
 -- ---- a line and its name
 
@@ -118,30 +121,30 @@ module _ (s : Separators) (t : Text) (i e k n : ℕ) (segs cells : List ℕ) whe
   unfolding leaves_of
   leaves_are z = rw (z, line_from t i e, drop-drop 3 i (take e t))
 
-  pub segment_257 : (segs' cells' : List ℕ) → k ≡ 256 → SegmentRead s t (line t i e) e k n segs cells segs' cells' 4097
-  segment_257 segs' cells' q = record {
-    fitted = λ h. absurd (omega (arith, h));
-    few = λ h. absurd (omega (arith, h));
-    too_many = λ _. rw (le-leb SEGMENTS_MAX k (omega arith));
-    most = omega arith;
-  }
+  pub segment_257 : (segs' cells' : List ℕ) → k ≡ 256 → SegmentRead s t (line t i e) e k n segs cells segs' cells' (Err TooMany)
+  segment_257 segs' cells' q = record { fitted = tt; few = tt; most = tt; too_many = (refl, rw (le-leb SEGMENTS_MAX k (omega arith))) }
 
-  module _ (z : is_header_name (take 3 (line t i e)) ≡ false) {cells' : List ℕ} {m : ℕ} (g : LeavesRead (leaves_behind s (at_field 0) (drop (i + 3) (take e t))) t e n cells cells' m) where
-    pub segment_too_many : (segs' : List ℕ) → LEAVES_MAX < m → SegmentRead s t (line t i e) e k n segs cells segs' cells' 4097
-    segment_too_many segs' h = record {
-      fitted = λ h. absurd (omega (arith, h));
-      few = λ h. absurd (omega (arith, h));
-      too_many = λ _. rw (leaves_are z, lt-ltb LEAVES_MAX (n + length (leaves_behind s (at_field 0) (drop (i + 3) (take e t)))) (g.too_many h)) (or_true (leb SEGMENTS_MAX k));
-      most = omega arith;
+  module _ (z : is_header_name (take 3 (line t i e)) ≡ false) {cells' : List ℕ} where
+    pub segment_too_many : (f : Refusal) → LeavesRead (leaves_behind s (at_field 0) (drop (i + 3) (take e t))) t e n cells cells' (Err f)
+        → (segs' : List ℕ) → SegmentRead s t (line t i e) e k n segs cells segs' cells' (Err f)
+    segment_too_many f g segs' = record {
+      fitted = tt;
+      few = tt;
+      most = tt;
+      too_many = (
+        g.too_many.0,
+        rw (leaves_are z, lt-ltb LEAVES_MAX (n + length (leaves_behind s (at_field 0) (drop (i + 3) (take e t)))) g.too_many.1) (or_true (leb SEGMENTS_MAX k)),
+      );
     }
 
-    pub segment_fits : e ≤ length t → i + 3 ≤ e → k < SEGMENTS_MAX → m ≤ LEAVES_MAX → {segs' : List ℕ} {o : ℕ}
+    pub segment_fits : {m : ℕ} → LeavesRead (leaves_behind s (at_field 0) (drop (i + 3) (take e t))) t e n cells cells' (Ok m)
+        → e ≤ length t → i + 3 ≤ e → k < SEGMENTS_MAX → {segs' : List ℕ} {o : ℕ}
         → o ≡ count (get_or t i 0 ∷ get_or t (i + 1) 0 ∷ get_or t (i + 2) 0 ∷ []) (names segs 0 k) + 1
-        → SegmentPut segs k n (get_or t i 0) (get_or t (i + 1) 0) (get_or t (i + 2) 0) o m segs' → SegmentRead s t (line t i e) e k n segs cells segs' cells' m
-    segment_fits l w few h {segs'} {o} c p = record {
-      fitted = λ _. record {
+        → SegmentPut segs k n (get_or t i 0) (get_or t (i + 1) 0) (get_or t (i + 2) 0) o m segs' → SegmentRead s t (line t i e) e k n segs cells segs' cells' (Ok m)
+    segment_fits g l w few {segs'} {o} c p = record {
+      fitted = record {
         few = few;
-        filled = rw (leaves_are z) (g.fitted h);
+        filled = rw (leaves_are z) g.fitted;
         label = p.label ∙ rw (c, line_name t i e l w);
         begins = p.begins;
         ends = p.ends;
@@ -149,8 +152,8 @@ module _ (s : Separators) (t : Text) (i e k n : ℕ) (segs cells : List ℕ) whe
         before = g.before;
       };
       few = g.few;
-      too_many = λ x. absurd (omega arith);
-      most = omega arith;
+      most = g.most;
+      too_many = tt;
     }
 
 -- ---- the header
@@ -186,16 +189,22 @@ module _ (s : Separators) (t : Text) (e : ℕ) (long : 8 ≤ e) (inside : e ≤ 
   unfolding leaves_of header_leaves at_field
   leaves_are_three = rw (header, line_0)
 
-  module _ {cells cells₁ cells₂ cells' : List ℕ} {r : ℕ} (p : LeafPut cells 0 (in_field 1) 3 1 cells₁) (q : LeafPut cells₁ 1 (in_field 2) 4 4 cells₂)
-      (g : LeavesRead (leaves_behind s (at_field 2) (drop 8 (take e t))) t e 2 cells₂ cells' r) where
-    pub header_too_many : (segs segs' : List ℕ) → LEAVES_MAX < r → SegmentRead s t (line t 0 e) e 0 0 segs cells segs' cells' 4097
-    header_too_many segs segs' h = record {
-      fitted = λ h. absurd (omega (arith, h));
-      few = λ h. absurd (omega (arith, h));
-      too_many = λ _. rw leaves_are_three (lt-ltb LEAVES_MAX (0 + suc (suc (length (leaves_behind s (at_field 2) (drop 8 (take e t)))))) (omega (arith, g.too_many h)));
-      most = omega arith;
-    }
+  -- more than 4096 leaves
+  pub header_too_many : (cells : List ℕ) {cells₂ cells' : List ℕ} (f : Refusal)
+      → LeavesRead (leaves_behind s (at_field 2) (drop 8 (take e t))) t e 2 cells₂ cells' (Err f)
+      → (segs segs' : List ℕ) → SegmentRead s t (line t 0 e) e 0 0 segs cells segs' cells' (Err f)
+  header_too_many cells f g segs segs' = record {
+    fitted = tt;
+    few = tt;
+    most = tt;
+    too_many = (
+      g.too_many.0,
+      rw leaves_are_three (lt-ltb LEAVES_MAX (0 + suc (suc (length (leaves_behind s (at_field 2) (drop 8 (take e t)))))) (omega (arith, g.too_many.1))),
+    );
+  }
 
+  module _ {cells cells₁ cells₂ cells' : List ℕ} {r : ℕ} (p : LeafPut cells 0 (in_field 1) 3 1 cells₁) (q : LeafPut cells₁ 1 (in_field 2) 4 4 cells₂)
+      (g : LeavesRead (leaves_behind s (at_field 2) (drop 8 (take e t))) t e 2 cells₂ cells' (Ok r)) where
     kept_0 : (k : ℕ) → k < 8 → cell cells' 0 k ≡ cell cells₁ 0 k
     kept_0 k h = g.before 0 k h (omega arith) ∙ q.other 0 k h (λ x. absurd (omega (arith, x)))
 
@@ -238,12 +247,13 @@ module _ (s : Separators) (t : Text) (e : ℕ) (long : 8 ≤ e) (inside : e ≤ 
           within = header_within f;
         })
 
-    pub header_fits : r ≤ LEAVES_MAX → {segs segs' : List ℕ} → SegmentPut segs 0 0 (get_or t 0 0) (get_or t 1 0) (get_or t 2 0) 1 r segs' → SegmentRead s t (line t 0 e) e 0 0 segs cells segs' cells' r
+    pub header_fits : {segs segs' : List ℕ} → SegmentPut segs 0 0 (get_or t 0 0) (get_or t 1 0) (get_or t 2 0) 1 r segs'
+        → SegmentRead s t (line t 0 e) e 0 0 segs cells segs' cells' (Ok r)
     unfolding names list_of count
-    header_fits h {segs} {segs'} w = record {
-      fitted = λ _. record {
+    header_fits {segs} {segs'} w = record {
+      fitted = record {
         few = omega arith;
-        filled = header_filled (g.fitted h);
+        filled = header_filled g.fitted;
         label = w.label ∙ rw (line_name t 0 e inside (omega arith));
         begins = w.begins;
         ends = w.ends;
@@ -251,6 +261,6 @@ module _ (s : Separators) (t : Text) (e : ℕ) (long : 8 ≤ e) (inside : e ≤ 
         before = λ i j a b. absurd (omega arith);
       };
       few = g.few;
-      too_many = λ x. absurd (omega arith);
-      most = omega arith;
+      most = g.most;
+      too_many = tt;
     }

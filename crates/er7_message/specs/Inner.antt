@@ -1,13 +1,14 @@
 -- What the contracts of private functions cite; no public contract rests on it. Assumes nothing: these are definitions.
-use Rattle.std.specs.Prelude.{◌≡◌, Bool, true, false, not, cond, ◌||◌, List, [], ◌++◌, ℕ, ◌+◌, ◌-◌, ◌≤◌, ◌<◌, leb, ltb, length, take, drop, get_or}
+use Rattle.std.specs.Prelude.{◌≡◌, Bool, true, false, not, cond, ◌||◌, List, [], ◌++◌, ℕ, ◌+◌, ◌-◌, ◌≤◌, ◌<◌, leb, ltb, length, take, drop, get_or, Ok, IfOk, IfErr}
+use Rattle.std.specs.declared.result.Result.{Result}
 use Rattle.std.proofs.Math.Option.{Option, some}
 use Rattle.text.specs.Text.{Text, part}
 use Rattle.refusal.specs.declared.Refusal.{Refusal}
-use Rattle.refusal.specs.declared.Refusal.TheVariants.{BadHeader}
+use Rattle.refusal.specs.declared.Refusal.TheVariants.{BadHeader, TooMany}
 use Rattle.refusal.specs.Limits.{LEAVES_MAX, SEGMENTS_MAX}
 use Rattle.er7.specs.declared.separators.Separators.{Separators}
 use Rattle.message_model.specs.Message.{Message, separators_of, is_header, segment_lines, head_of, leaves_of, count, segments, segments_fault, message_of, message_fault}
-use Rattle.er7_message.specs.declared.message.ParsedMessage.{ParsedMessage}
+use Rattle.er7_message.specs.declared.message.Layout.{Layout}
 use Rattle.er7_message.specs.Parsed.{ParsedAs}
 use Rattle.er7_table.specs.Table.{cell, list_of, Good, Placed, first_leaf, name_at, label_at, segments_from}
 use Rattle.er7_table.specs.Filling.{Filled, LeafRoom}
@@ -40,9 +41,9 @@ lines_fault t =
 unfoldable pub lines_message : Bool → Text → Message
 lines_message last t = message_by (separators_of (head_of (segment_lines [] t))) last t
 
--- the answer to a message of no bytes, whatever the table of leaves holds
-abbrev pub NothingRead : List ℕ → ParsedMessage → Type 0
-NothingRead segs a = (cells : List ℕ) → ParsedAs [] (message_fault []) (message_of []) segs cells a
+-- what a message of no bytes is read as, whatever the table of leaves holds
+abbrev pub NothingRead : List ℕ → Layout → Type 0
+NothingRead segs c = (cells : List ℕ) → ParsedAs [] (message_fault []) (message_of []) segs cells (Ok c)
 
 -- the first line of t, which ends at index e, is a header that names s
 pub record HeaderEnd (s : Separators) (t : Text) (e : ℕ) : Type 0 where
@@ -73,12 +74,12 @@ pub record SegmentFits (s : Separators) (t l : Text) (k n : ℕ) (segs cells seg
   pub rows : (i j : ℕ) → j < 8 → i < k → cell segs' i j ≡ cell segs i j
   pub before : (i j : ℕ) → j < 8 → i < n → cell cells' i j ≡ cell cells i j
 
--- it did, and there are no more leaves than bytes before index e; or it is one segment or some leaves too many
-pub record SegmentRead (s : Separators) (t l : Text) (e k n : ℕ) (segs cells segs' cells' : List ℕ) (r : ℕ) : Type 0 where
-  pub fitted : r ≤ LEAVES_MAX → SegmentFits s t l k n segs cells segs' cells' r
-  pub few : r ≤ LEAVES_MAX → r ≤ e
-  pub too_many : LEAVES_MAX < r → leb SEGMENTS_MAX k || ltb LEAVES_MAX (n + length (leaves_of s l)) ≡ true
-  pub most : r ≤ 4097
+-- it did, and there are no more leaves than bytes before index e; or it is one segment or some leaves too many, which refuses it
+pub record SegmentRead (s : Separators) (t l : Text) (e k n : ℕ) (segs cells segs' cells' : List ℕ) (r : Result ℕ Refusal) : Type 0 where
+  pub fitted : IfOk r (λ m. SegmentFits s t l k n segs cells segs' cells' m)
+  pub few : IfOk r (λ m. m ≤ e)
+  pub most : IfOk r (λ m. m ≤ LEAVES_MAX)
+  pub too_many : IfErr r (λ f. (f ≡ TooMany) × (leb SEGMENTS_MAX k || ltb LEAVES_MAX (n + length (leaves_of s l)) ≡ true))
 
 -- ---- the segments before the lines ls stand in k rows, with n leaves
 pub record Reading (s : Separators) (t : Text) (segs cells : List ℕ) (k n : ℕ) (ls : List Text) : Type 0 where

@@ -1,5 +1,6 @@
 -- What the answer of `parse` says. Assumes nothing: these are definitions.
-use Rattle.std.specs.Prelude.{◌≡◌, false, List, ℕ, ◌≤◌, length}
+use Rattle.std.specs.Prelude.{◌≡◌, false, List, ℕ, ◌≤◌, length, Ok, Err}
+use Rattle.std.specs.declared.result.Result.{Result}
 use Rattle.std.proofs.Math.Option.{Option, none, some}
 use Rattle.text.specs.Text.{Text}
 use Rattle.refusal.specs.declared.Refusal.{Refusal}
@@ -7,12 +8,10 @@ use Rattle.refusal.specs.Limits.{LEAVES_MAX, SEGMENTS_MAX}
 use Rattle.message_model.specs.Message.{Message}
 use Rattle.er7_table.specs.Table.{Good, Placed, Segmented, segments_from}
 use Rattle.er7_message.specs.declared.message.Layout.{Layout}
-use Rattle.er7_message.specs.declared.message.ParsedMessage.{ParsedMessage}
-use Rattle.er7_message.specs.declared.message.ParsedMessage.TheVariants.{Read, Refused}
 
-unfoldable pub fault_of : ParsedMessage → Option Refusal
-fault_of (Read c) = none
-fault_of (Refused e) = some e
+unfoldable pub fault_of : Result Layout Refusal → Option Refusal
+fault_of (Ok c) = none
+fault_of (Err e) = some e
 
 -- the tables stand for the message m over the store t; no leaf is named
 pub record Standing (t : Text) (m : Message) (segs cells : List ℕ) (c : Layout) : Type 0 where
@@ -25,11 +24,11 @@ pub record Standing (t : Text) (m : Message) (segs cells : List ℕ) (c : Layout
   pub segments_most : c.segments ≤ SEGMENTS_MAX
   pub leaves_most : c.leaves ≤ LEAVES_MAX
 
-abbrev pub StandingOr : Text → Message → List ℕ → List ℕ → ParsedMessage → Type 0
-StandingOr t m segs cells (Read c) = Standing t m segs cells c
-StandingOr t m segs cells (Refused e) = Unit {0}
+abbrev pub StandingOr : Text → Message → List ℕ → List ℕ → Result Layout Refusal → Type 0
+StandingOr t m segs cells (Ok c) = Standing t m segs cells c
+StandingOr t m segs cells (Err e) = Unit {0}
 
 -- the answer a names the fault f; where there is none the tables stand for the message m
-pub record ParsedAs (t : Text) (f : Option Refusal) (m : Message) (segs cells : List ℕ) (a : ParsedMessage) : Type 0 where
+pub record ParsedAs (t : Text) (f : Option Refusal) (m : Message) (segs cells : List ℕ) (a : Result Layout Refusal) : Type 0 where
   pub is : fault_of a ≡ f
   pub tables : StandingOr t m segs cells a

@@ -1,7 +1,8 @@
 // Reading a message: its segments and leaves, and what refuses it.
-ghost use Rattle.std.specs.Prelude.{◌≡◌, true, false, [], ◌∷◌, ◌+◌, ◌*◌, ◌≤◌, ◌<◌, length, take, drop};
+ghost use Rattle.std.specs.Prelude.{◌≡◌, true, false, [], ◌∷◌, ◌+◌, ◌*◌, ◌≤◌, ◌<◌, ◌==◌, length, take, drop};
+ghost use Rattle.std.specs.List.{position_or_len};
 ghost use Rattle.text.specs.Text.{same};
-ghost use Rattle.message_model.specs.Message.{is_header_name, ends_in_cr, is_name_byte, is_name, is_named, separators_of, count, at_field, leaves_behind, segment_lines, message_fault, message_of};
+ghost use Rattle.message_model.specs.Message.{is_header_name, is_name_byte, is_name, is_named, separators_of, count, at_field, leaves_behind, segment_lines, message_fault, message_of};
 ghost use Rattle.er7_table.specs.Table.{name_at};
 ghost use Rattle.er7_table.specs.Filling.{LeafRoom, LeavesRead};
 ghost use Rattle.er7_message.specs.Parsed.{ParsedAs};
@@ -24,20 +25,11 @@ pub struct Layout {
     pub last_cr: bool,
 }
 
-#[derive(Clone, Copy)]
-pub enum ParsedMessage {
-    Read(Layout),
-    Refused(Refusal),
-}
-
-// Whether the last byte is a CR.
-fn ends_in_cr(text: &[u8]) -> bool
-    ensures { result ≡ ends_in_cr text.now }
+// How many bytes stand before the first CR.
+fn line_len(text: &[u8]) -> usize
+    ensures { result ≡ position_or_len (λ b. b == 0x0d) text.now }
 {
-    if text.len() == 0 {
-        return false;
-    }
-    text[text.len() - 1] == 13
+    text.iter().take_while(|&&b| b != b'\r').count()
 }
 
 // Where the line that begins at index i ends.
@@ -45,21 +37,15 @@ fn line_end(text: &[u8], i: usize) -> usize
     requires { i ≤ length text.now }
     ensures { LineEnd text.now i result }
 {
-    let mut j = i;
-    while j < text.len() {
-        if text[j] == 13 {
-            return j;
-        }
-        j += 1;
-    }
-    j
+    i + line_len(&text[i..])
 }
 
 // Whether b may stand in a name.
+#[tactic(auto, unfolding(message_model::specs::Message::is_name_byte, text::specs::Text::is_upper, text::specs::Text::is_digit))]
 fn is_name_byte(b: u8) -> bool
     ensures { result ≡ is_name_byte b }
 {
-    ((65 <= b) & (b <= 90)) | ((48 <= b) & (b <= 57))
+    matches!(b, b'A'..=b'Z' | b'0'..=b'9')
 }
 
 // Whether three bytes are the name of a segment behind the header.
@@ -67,25 +53,15 @@ fn is_name(n: &[u8]) -> bool
     requires { length n.now ≡ 3 }
     ensures { result ≡ is_name n.now }
 {
-    let letters = is_name_byte(n[0]) & (is_name_byte(n[1]) & is_name_byte(n[2]));
-    let header = is_header_name(n[0], n[1], n[2]);
-    letters & !header
+    n.iter().all(|&b| is_name_byte(b)) & !is_header_name(n[0], n[1], n[2])
 }
 
 // Whether a line begins with a name, behind which comes a field delimiter or the end.
+#[tactic(auto, unfolding(message_model::specs::Message::is_named))]
 fn is_named(s: Separators, line: &[u8]) -> bool
     ensures { result ≡ is_named s line.now }
 {
-    if line.len() < 3 {
-        return false;
-    }
-    if !is_name(&line[0..3]) {
-        return false;
-    }
-    if line.len() == 3 {
-        return true;
-    }
-    line[3] == s.field
+    line.len() >= 3 && is_name(&line[..3]) && (line.len() == 3 || line[3] == s.field)
 }
 
 // Whether segment k has the name a b c.
@@ -102,19 +78,17 @@ fn occurrence(segs: &[usize; 2056], k: usize, a: usize, b: usize, c: usize) -> u
     requires { (k ≤ SEGMENTS_MAX) × Numbered segs.now k }
     ensures { result ≡ count (a ∷ b ∷ c ∷ []) (names segs.now 0 k) + 1 }
 {
-    let mut j = k;
-    while 0 < j {
-        if has_name(segs, j - 1, a, b, c) {
-            let at = (j - 1) * 8;
+    for j in (0..k).rev() {
+        if has_name(segs, j, a, b, c) {
+            let at = j * 8;
             return segs[at + 5] + 1;
         }
-        j -= 1;
     }
     1
 }
 
 // Reads the leaves of what stands between the indices from and end, behind a name or MSH-2, into the rows from n on; field is the field before them.
-// Returns the number of rows then; 4097 if there are more than 4096.
+// Returns the number of rows then; TooMany if there are more than 4096.
 fn read_behind(
     text: &[u8],
     from: usize,
@@ -123,19 +97,19 @@ fn read_behind(
     field: usize,
     n: usize,
     cells: &mut [usize],
-) -> usize
+) -> Result<usize, Refusal>
     requires { (1 ≤ from) × (field ≤ from) × (from ≤ end) × (end ≤ length text.now) × (n ≤ LEAVES_MAX) × (n < from) × LeafRoom cells.old (length text.now) }
     ensures { LeavesRead (leaves_behind s (at_field field) (drop from (take end text.now))) text.now end n cells.old cells.new result }
 {
     if from == end {
-        return n;
+        return Ok(n);
     }
     let p = next(s, text[from], at_field(field));
-    read_leaves(&text[0..end], from + 1, s, p, n, cells)
+    read_leaves(&text[..end], from + 1, s, p, n, cells)
 }
 
 // Reads the line from index i to index e, which has a name and is no header, as segment k behind n leaves.
-// Returns the number of leaves then; 4097 if there are more than 256 segments or 4096 leaves.
+// Returns the number of leaves then; TooMany if there are more than 256 segments or 4096 leaves.
 fn read_segment(
     text: &[u8],
     i: usize,
@@ -145,48 +119,42 @@ fn read_segment(
     n: usize,
     segs: &mut [usize; 2056],
     cells: &mut [usize],
-) -> usize
+) -> Result<usize, Refusal>
     requires { (i + 3 ≤ e) × (e ≤ length text.now) × (k ≤ SEGMENTS_MAX) × (n ≤ LEAVES_MAX) × (n ≤ i) × LeafRoom cells.old (length text.now) × Numbered segs.old k × (is_header_name (take 3 (line text.now i e)) ≡ false) }
     ensures { SegmentRead s text.now (line text.now i e) e k n segs.old cells.old segs.new cells.new result }
 {
     if k == SEGMENTS_MAX {
-        return 4097;
+        return Err(Refusal::TooMany);
     }
-    let m = read_behind(text, i + 3, e, s, 0, n, cells);
-    if LEAVES_MAX < m {
-        return 4097;
-    }
+    let m = read_behind(text, i + 3, e, s, 0, n, cells)?;
     let a = text[i] as usize;
     let b = text[i + 1] as usize;
     let c = text[i + 2] as usize;
     let number = occurrence(segs, k, a, b, c);
     put_segment(segs, k, n, a, b, c, number, m);
-    m
+    Ok(m)
 }
 
 // Reads the first line, which ends at index e and names the delimiters s, as segment 0.
-// Returns the number of leaves; 4097 if there are more than 4096.
+// Returns the number of leaves; TooMany if there are more than 4096.
 fn read_header(
     text: &[u8],
     e: usize,
     s: Separators,
     segs: &mut [usize; 2056],
     cells: &mut [usize],
-) -> usize
+) -> Result<usize, Refusal>
     requires { (8 ≤ e) × (e ≤ length text.now) × (s ≡ separators_of (line text.now 0 e)) × LeafRoom cells.old (length text.now) × (is_header_name (take 3 (line text.now 0 e)) ≡ true) }
     ensures { SegmentRead s text.now (line text.now 0 e) e 0 0 segs.old cells.old segs.new cells.new result }
 {
     put_leaf(cells, 0, at_field(1), 3, 1);
     put_leaf(cells, 1, at_field(2), 4, 4);
-    let n = read_behind(text, 8, e, s, 2, 2, cells);
-    if LEAVES_MAX < n {
-        return 4097;
-    }
+    let n = read_behind(text, 8, e, s, 2, 2, cells)?;
     let a = text[0] as usize;
     let b = text[1] as usize;
     let c = text[2] as usize;
     put_segment(segs, 0, 0, a, b, c, 1, n);
-    n
+    Ok(n)
 }
 
 // Reads the lines from index from on, behind the header and its n0 leaves; last says whether a CR ends the last one.
@@ -198,26 +166,23 @@ fn read_rest(
     n0: usize,
     segs: &mut [usize; 2056],
     cells: &mut [usize],
-) -> ParsedMessage
+) -> Result<Layout, Refusal>
     requires { (from ≤ length text.now) × (n0 ≤ from) × Reading s text.now segs.old cells.old 1 n0 (segment_lines [] (drop from text.now)) }
     ensures { ParsedAs text.now (fault_by s text.now) (message_by s last text.now) segs.new cells.new result }
 {
     let mut i = from;
     let mut k = 1;
     let mut n = n0;
+    // no `for`: a range of segments ends where one too many is refused, so that a refusal behind it would never come
     'lines: loop {
         let e = line_end(text, i);
         if !is_named(s, &text[i..e]) {
-            return ParsedMessage::Refused(Refusal::BadSegment);
+            return Err(Refusal::BadSegment);
         }
-        let end = read_segment(text, i, e, s, k, n, segs, cells);
-        if LEAVES_MAX < end {
-            return ParsedMessage::Refused(Refusal::TooMany);
-        }
-        n = end;
+        n = read_segment(text, i, e, s, k, n, segs, cells)?;
         k += 1;
         if e == text.len() {
-            return ParsedMessage::Read(Layout {
+            return Ok(Layout {
                 separators: s,
                 segments: k,
                 leaves: n,
@@ -236,16 +201,13 @@ fn read_lines(
     last: bool,
     segs: &mut [usize; 2056],
     cells: &mut [usize],
-) -> ParsedMessage
+) -> Result<Layout, Refusal>
     requires { HeaderEnd s text.now e × LeafRoom cells.old (length text.now) }
     ensures { ParsedAs text.now (fault_by s text.now) (message_by s last text.now) segs.new cells.new result }
 {
-    let n = read_header(text, e, s, segs, cells);
-    if LEAVES_MAX < n {
-        return ParsedMessage::Refused(Refusal::TooMany);
-    }
+    let n = read_header(text, e, s, segs, cells)?;
     if e == text.len() {
-        return ParsedMessage::Read(Layout {
+        return Ok(Layout {
             separators: s,
             segments: 1,
             leaves: n,
@@ -261,20 +223,21 @@ fn parse_lines(
     last: bool,
     segs: &mut [usize; 2056],
     cells: &mut [usize],
-) -> ParsedMessage
+) -> Result<Layout, Refusal>
     requires { LeafRoom cells.old (length text.now) }
     ensures { ParsedAs text.now (lines_fault text.now) (lines_message last text.now) segs.new cells.new result }
 {
     let e = line_end(text, 0);
-    if !is_header(&text[0..e]) {
-        return ParsedMessage::Refused(Refusal::BadHeader);
+    let header = &text[..e];
+    if !is_header(header) {
+        return Err(Refusal::BadHeader);
     }
-    let s = separators_of(&text[0..e]);
+    let s = separators_of(header);
     read_lines(text, e, s, last, segs, cells)
 }
 
 // Reads a message of no bytes: it has no segments, hence no leaves and no delimiters.
-fn read_nothing(segs: &mut [usize; 2056]) -> ParsedMessage
+fn read_nothing(segs: &mut [usize; 2056]) -> Layout
     ensures { NothingRead segs.new result }
 {
     segs[1] = 0;
@@ -285,32 +248,30 @@ fn read_nothing(segs: &mut [usize; 2056]) -> ParsedMessage
         escape: 0,
         subcomponent: 0,
     };
-    let empty = Layout {
+    Layout {
         separators: none,
         segments: 0,
         leaves: 0,
         last_cr: false,
-    };
-    ParsedMessage::Read(empty)
+    }
 }
 
 // Reads a message into the two tables, or says what refuses it.
-pub fn parse(text: &[u8], segs: &mut [usize; 2056], cells: &mut [usize]) -> ParsedMessage
+pub fn parse(text: &[u8], segs: &mut [usize; 2056], cells: &mut [usize]) -> Result<Layout, Refusal>
     requires { LeafRoom cells.old (length text.now) }
     ensures { ParsedAs text.now (message_fault text.now) (message_of text.now) segs.new cells.new result }
 {
     if INPUT_MAX < text.len() {
-        return ParsedMessage::Refused(Refusal::TooLong);
+        return Err(Refusal::TooLong);
     }
     if !no_foreign(Input::Message, text) {
-        return ParsedMessage::Refused(Refusal::ForeignByte);
+        return Err(Refusal::ForeignByte);
     }
-    if text.len() == 0 {
-        return read_nothing(segs);
+    if text.is_empty() {
+        return Ok(read_nothing(segs));
     }
-    if ends_in_cr(text) {
-        let n = text.len() - 1;
-        return parse_lines(&text[0..n], true, segs, cells);
+    match text.strip_suffix(b"\r") {
+        Some(lines) => parse_lines(lines, true, segs, cells),
+        None => parse_lines(text, false, segs, cells),
     }
-    parse_lines(text, false, segs, cells)
 }

@@ -11,38 +11,31 @@ fn may_delimit(b: u8) -> bool
 {
     let alphanumeric = is_in(Class::Alphanumeric, b);
     let blank = is_in(Class::Blank, b);
-    !(alphanumeric | blank | (b == 13) | (b == 34))
+    !(alphanumeric | blank | (b == b'\r') | (b == b'"'))
 }
 
-// Whether five different bytes may delimit.
-fn may_delimit_all(a: u8, b: u8, c: u8, d: u8, e: u8) -> bool
-    ensures { result ≡ may_delimit_all (a ∷ b ∷ c ∷ d ∷ e ∷ []) }
+// Whether bytes that are all different may delimit.
+fn may_delimit_all(bytes: &[u8]) -> bool
+    ensures { result ≡ may_delimit_all bytes.now }
 {
-    let first = may_delimit(a) & ((a != b) & ((a != c) & ((a != d) & (a != e))));
-    let second = may_delimit(b) & ((b != c) & ((b != d) & (b != e)));
-    let third = may_delimit(c) & ((c != d) & (c != e));
-    let fourth = may_delimit(d) & (d != e);
-    let fifth = may_delimit(e);
-    first & (second & (third & (fourth & fifth)))
+    for (i, &b) in bytes.iter().enumerate() {
+        let fine = may_delimit(b) & !bytes[i + 1..].contains(&b);
+        if !fine {
+            return false;
+        }
+    }
+    true
 }
 
 // Whether a message's first line is a header.
+#[tactic(auto, unfolding(message_model::specs::Message::is_header, text::specs::Text::bytes))]
 pub fn is_header(line: &[u8]) -> bool
     ensures { result ≡ is_header line.now }
 {
-    if line.len() < 8 {
-        return false;
-    }
-    if !same_bytes(&line[0..3], b"MSH") {
-        return false;
-    }
-    if !may_delimit_all(line[3], line[4], line[5], line[6], line[7]) {
-        return false;
-    }
-    if line.len() == 8 {
-        return true;
-    }
-    line[8] == line[3]
+    line.len() >= 8
+        && same_bytes(&line[..3], b"MSH")
+        && may_delimit_all(&line[3..8])
+        && (line.len() == 8 || line[8] == line[3])
 }
 
 // The delimiters that a header names.

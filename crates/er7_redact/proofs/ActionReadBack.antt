@@ -10,6 +10,7 @@ use lib.Dec.{eqb, leb}
 use lib.IntN.{ℤ, pos, negsuc, nat_abs}
 use lib.ListN.{length, drop}
 use lib.Seq.{drop-drop, drop-append_seam}
+use Rattle.std.proofs.Common as Std
 use Rattle.text.specs.Text.{Text, bytes, is_digit, is_upper, is_blank, not_blank, is_empty, lower_byte, lower, same, is_word, run, rest, part, all}
 use Rattle.text.specs.Number.{decimal, Taken, taken, refused, take_number}
 use Rattle.text.proofs.Laws.{Maybe, and_left, by_cond, clash}
@@ -21,8 +22,6 @@ use Rattle.refusal.specs.declared.Refusal.{Refusal}
 use Rattle.refusal.specs.declared.Refusal.TheVariants.{BadAction}
 use Rattle.er7_redact.proofs.Actions.{replacement_part}
 use Rattle.er7_redact.specs.declared.action.Action.{Action as HeldAction}
-use Rattle.er7_redact.specs.declared.action.ParsedAction.{ParsedAction}
-use Rattle.er7_redact.specs.declared.action.ParsedAction.TheVariants.{Parsed}
 use Rattle.er7_redact.specs.Action.{Action, ActionRead, is_action, no_action, refusal_of, or_refused, keep, clear, null, pseudonym, replace, mask, first, last, shift, name, argument, verb_with_argument, verb, bare, read_replace, read_mask, without_plus, whole, read_count, DAYS_MAX, signed, is_negative, without_sign, days_of, read_days, read_argument, read_action, print_days, print_action, replacement, as_action, ActionHeld, held_as, held_read, argument_at}
 
 -- an action as reading gives it
@@ -237,11 +236,11 @@ held_inside t i n (first m) k = tt
 held_inside t i n (last m) k = tt
 held_inside t i n (shift z) k = tt
 
-pub parsed_held : (t s : Text) (base : ℕ) (r : ParsedAction) (h : HeldAction) → base + length s ≤ length t
-    → r ≡ held_read (base + argument_at s) (length (argument s)) (read_action s) → r ≡ Parsed h → ActionHeld t h
+pub parsed_held : (t s : Text) (base : ℕ) (r : Std.Result HeldAction Refusal) (h : HeldAction) → base + length s ≤ length t
+    → r ≡ held_read (base + argument_at s) (length (argument s)) (read_action s) → r ≡ Std.Ok h → ActionHeld t h
 parsed_held t s base r h l e f = go (read_action s) (sym f ∙ e)
   where
-    go : (o : ActionRead) → Parsed h ≡ held_read (base + argument_at s) (length (argument s)) o → ActionHeld t h
+    go : (o : ActionRead) → Std.Ok h ≡ held_read (base + argument_at s) (length (argument s)) o → ActionHeld t h
     go (no_action x) q = unfold held_read in let z : ◌≡◌ {A = ℕ} 0 1 = cc in absurd (omega arith)
     go (is_action a) q = unfold held_read in
         let w : h ≡ held_as (base + argument_at s) (length (argument s)) a = cc in

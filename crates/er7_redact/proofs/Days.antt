@@ -5,21 +5,24 @@ use mathlib.Core.List.{◌∷◌}
 use Prim.Native.Nat.{ℕ, zero, suc, ◌+◌, ◌≤◌, ◌<◌}
 use native.Mathlib.Omega.{arith}
 use borrow.Author.Tests.{ltb-true, le-ltb, le-leb, lt-leb}
-use lib.Dec.{T}
 use lib.IntN.{ℤ, pos, negsuc, nat_abs, neg_ℤ, ◌-ℤ◌, +ℤ_idl}
+use lib.Dec.{T}
 use lib.Signed.{mag, lt_z, non_neg, nat_abs-le}
 use mir.Syntax.{w64}
 use mir.Val.{Fits, SFits, to_z, of_z}
 use mir.ValLaws.{to_z-of_z}
-use Rattle.text.specs.Number.{decimal}
-use Rattle.text.proofs.Laws.{clash}
+use Rattle.text.specs.Number.{decimal, take_number}
+use Rattle.text.proofs.Laws.{clash, same_ok, same_err}
 use Rattle.refusal.specs.declared.Refusal.TheVariants.{BadDayCount}
-use Rattle.er7_redact.specs.declared.action.Count.{Count}
-use Rattle.er7_redact.specs.declared.action.Count.TheVariants.{Of, BadCount}
-use Rattle.er7_redact.specs.declared.action.Action.TheVariants as Held
-use Rattle.er7_redact.specs.declared.action.ParsedAction.TheVariants.{Parsed, Refused}
-use Rattle.er7_redact.specs.Action.{DAYS_MAX, signed, days_of, print_days}
-use Rattle.er7_redact.specs.Inner.{held_days, count_of}
+use Rattle.er7_redact.specs.Action.{DAYS_MAX, signed, days_of, print_days, is_negative, without_sign, whole, read_days}
+use Rattle.er7_redact.specs.Inner.{held_days, held_number, Unsigned}
+use Rattle.std.proofs.Math.Option.{Option, none, some}
+use Rattle.std.proofs.Common.{Ok, Err, drop}
+use Rattle.std.proofs.Common as Std
+use Rattle.std.specs.Option.{ok_or}
+use Rattle.std.specs.Result.{is_ok}
+use Rattle.text.specs.Text.{Text}
+use Rattle.refusal.specs.declared.Refusal.{Refusal}
 
 -- ---- reading
 
@@ -43,19 +46,36 @@ module _ (k : ℕ) (h : k ≤ DAYS_MAX) {z : ℤ} (e : z ≡ pos k) where
   unfolding signed
   signed_plus p = rw p e
 
-module _ (m : Bool) {c : Count} where
-  module _ {n : ℕ} (e : c ≡ Of n) where
-    pub days_read : {z z' : ℤ} → n ≤ DAYS_MAX → z' ≡ z → z ≡ signed m n → Parsed (Held.Shift z') ≡ held_days (days_of m (count_of c))
-    unfolding held_days days_of count_of
-    days_read h i q = ap (λ (z : ℤ). Parsed (Held.Shift z)) (i ∙ q) ∙ sym (rw (e, le-leb n DAYS_MAX h))
+-- the days that were read: a number up to the end, behind a sign, that is not too large
+module _ {s : Text} {i k : ℕ} {a : Std.Option ℕ} (g : Unsigned without_sign s i k) (w : a ≡ held_number (whole (take_number (drop k s)))) where
+  number_is : a ≡ held_number (whole (take_number (without_sign (drop i s))))
+  number_is = w ∙ ap (λ (u : Text). held_number (whole (take_number u))) g.is
 
-    pub days_over : DAYS_MAX < n → Refused BadDayCount ≡ held_days (days_of m (count_of c))
-    unfolding held_days days_of count_of
-    days_over h = sym (rw (e, lt-leb n DAYS_MAX h))
+  found : (o : Option ℕ) {n : ℕ} → Ok n ≡ ok_or (held_number o) BadDayCount → o ≡ some n
+  unfolding held_number
+  found none e = clash (ap is_ok e)
+  found (some x) e = ap some (sym (same_ok _ _ e))
 
-  pub days_bad : c ≡ BadCount → Refused BadDayCount ≡ held_days (days_of m (count_of c))
-  unfolding held_days days_of count_of
-  days_bad e = sym (rw e)
+  none_found : (m : Bool) (o : Option ℕ) {x : Refusal} → Err x ≡ ok_or (held_number o) BadDayCount → Err x ≡ held_days (days_of m o)
+  unfolding held_number held_days days_of
+  none_found m none e = same_err _ _ e
+  none_found m (some n) e = clash (sym (ap is_ok e))
+
+  module _ {n : ℕ} (e : Ok n ≡ ok_or a BadDayCount) where
+    is_found : whole (take_number (without_sign (drop i s))) ≡ some n
+    is_found = found _ (rw number_is at e)
+
+    pub days_read : {z z' : ℤ} {m : Bool} → m ≡ is_negative (drop i s) → n ≤ DAYS_MAX → z' ≡ z → z ≡ signed m n → Ok z' ≡ held_days (read_days (drop i s))
+    unfolding held_days days_of read_days
+    days_read f h j q = ap Ok (j ∙ q) ∙ sym (rw (← f, is_found, le-leb n DAYS_MAX h))
+
+    pub days_over : DAYS_MAX < n → Err BadDayCount ≡ held_days (read_days (drop i s))
+    unfolding held_days days_of read_days
+    days_over h = sym (rw (is_found, lt-leb n DAYS_MAX h))
+
+  pub days_bad : {x : Refusal} → Err x ≡ ok_or a BadDayCount → Err x ≡ held_days (read_days (drop i s))
+  unfolding read_days
+  days_bad e = none_found _ _ (rw number_is at e)
 
 -- ---- the number without its sign
 

@@ -1,5 +1,6 @@
 -- action.rs: the actions, reading, printing and applying them. Assumes nothing: these are definitions.
 use Rattle.std.specs.Prelude.{Bool, false, cond, ◌||◌, [], ◌∷◌, ◌++◌, ℕ, suc, ◌+◌, ◌-◌, ◌≤◌, eqb, leb, ℤ, pos, negsuc, neg_ℤ, length}
+use Rattle.std.specs.Prelude as Std
 use Rattle.std.proofs.Math.Option.{Option, none, some, map}
 use Rattle.text.specs.Text.{Text, bytes, is_word, part}
 use Rattle.text.specs.Characters.{char_count, first_chars, last_chars, character, one_char, mask_text, skip_blanks, word, behind_word}
@@ -12,10 +13,6 @@ use Rattle.er7_redact.specs.declared.action.Verb.{Verb}
 use Rattle.er7_redact.specs.declared.action.Verb.TheVariants as Verbs
 use Rattle.er7_redact.specs.declared.action.Action.{Action as HeldAction}
 use Rattle.er7_redact.specs.declared.action.Action.TheVariants as Held
-use Rattle.er7_redact.specs.declared.action.ParsedAction.{ParsedAction}
-use Rattle.er7_redact.specs.declared.action.ParsedAction.TheVariants.{Parsed, Refused}
-use Rattle.er7_redact.specs.declared.action.Applied.{Applied}
-use Rattle.er7_redact.specs.declared.action.Applied.TheVariants.{Written, Nothing}
 
 -- "one of eight actions: keep, clear, null, replace, mask, first, last, pseudonym"; "A new action `shift n` moves a date by n days"
 pub data Action : Type 0 where
@@ -228,22 +225,22 @@ held_as i n (first k) = Held.First k
 held_as i n (last k) = Held.Last k
 held_as i n (shift z) = Held.Shift z
 
-unfoldable pub held_action : ℕ → ℕ → Option Action → ParsedAction
-held_action i n none = Refused BadAction
-held_action i n (some a) = Parsed (held_as i n a)
+unfoldable pub held_action : ℕ → ℕ → Option Action → Std.Result HeldAction Refusal
+held_action i n none = Std.Err BadAction
+held_action i n (some a) = Std.Ok (held_as i n a)
 
-unfoldable pub held_read : ℕ → ℕ → ActionRead → ParsedAction
-held_read i n (is_action a) = Parsed (held_as i n a)
-held_read i n (no_action e) = Refused e
+unfoldable pub held_read : ℕ → ℕ → ActionRead → Std.Result HeldAction Refusal
+held_read i n (is_action a) = Std.Ok (held_as i n a)
+held_read i n (no_action e) = Std.Err e
 
 -- where the argument of s begins
 unfoldable pub argument_at : Text → ℕ
 argument_at s = length s - length (argument s)
 
--- the enum for the text that an action writes
-unfoldable pub answer : Option Text → Applied
-answer none = Nothing
-answer (some w) = Written (length w)
+-- the length of the text that an action writes, if it writes one
+unfoldable pub answer : Option Text → Std.Option ℕ
+answer none = Std.None
+answer (some w) = Std.Some (length w)
 
 -- what is written of it, and the room that it takes
 unfoldable pub written : Option Text → Text

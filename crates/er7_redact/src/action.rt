@@ -1,16 +1,16 @@
 // Actions: what redaction does to a value.
 ghost use Rattle.std.specs.Prelude.{◌≡◌, ℕ, ◌+◌, ◌-◌, ◌^◌, ◌≤◌, ◌<◌, min, length, take, drop, nat_abs};
 ghost use Rattle.text.specs.Text.{Text, Wrote};
-ghost use Rattle.er7_redact.specs.Action.{verb_with_argument, verb, without_plus, whole, read_count, read_mask, is_negative, without_sign, DAYS_MAX, days_of, read_argument, refusal_of, or_refused, read_action, print_days, print_action, replacement, as_action, ActionHeld, held_action, held_read, argument, argument_at, answer, written, room, is_keep, is_null_action};
+ghost use Rattle.er7_redact.specs.Action.{verb_with_argument, verb, without_plus, whole, read_count, read_mask, is_negative, without_sign, DAYS_MAX, read_argument, refusal_of, or_refused, read_action, print_days, print_action, replacement, as_action, ActionHeld, held_action, held_read, argument, argument_at, answer, written, room, is_keep, is_null_action};
 ghost use Rattle.text.specs.Number.{take_number};
-ghost use Rattle.er7_redact.specs.Inner.{Unsigned, held_bare, held_counted, held_count, held_days, count_of};
+ghost use Rattle.er7_redact.specs.Inner.{Unsigned, held_bare, held_number, held_count, held_days};
 ghost use Rattle.er7_redact.specs.Action as Spec;
 
 use calendar::texts::{shift_at, shifted_len};
 use pseudonym::pseudonym;
 use refusal::Refusal;
 use text::bytes::{Class, byte_at, copy_at, fill_at, is_word, run_end};
-use text::decimal::{Number, decimal_at, decimal_len, number_at};
+use text::decimal::{decimal_at, decimal_len, number_at};
 
 // The actions. A replacement is len bytes of a text from index start on; len is 0 for that of a bare `replace`.
 #[derive(Clone, Copy)]
@@ -24,12 +24,6 @@ pub enum Action {
     Last(u64),
     Pseudonym,
     Shift(i64),
-}
-
-#[derive(Clone, Copy)]
-pub enum ParsedAction {
-    Parsed(Action),
-    Refused(Refusal),
 }
 
 // An action's name.
@@ -47,21 +41,7 @@ pub enum Verb {
     Unknown,
 }
 
-// The number of characters that `first` or `last` keeps.
-#[derive(Clone, Copy)]
-pub enum Count {
-    Of(u64),
-    BadCount,
-}
-
-// The length of the text that is written in a value's place, if one is.
-#[derive(Clone, Copy)]
-pub enum Applied {
-    Written(usize),
-    Nothing,
-}
-
-// The action a as a number, each by its own.
+// The action a as a number, each by its own: a form that three wrong programs alter (kind_of_clear, kind_of_last, kind_shared).
 pub fn kind(a: Action) -> u8
     ensures { (t : Text) → result ≡ Spec.kind (as_action t a) }
 {
@@ -146,71 +126,48 @@ fn without_plus(s: &[u8], i: usize) -> usize
 }
 
 // The number that stands in s from index i on, up to its end.
-fn read_whole(s: &[u8], i: usize) -> Count
+fn read_whole(s: &[u8], i: usize) -> Option<u64>
     requires { i ≤ length s.now }
-    ensures { result ≡ held_count (whole (take_number (drop i s.now))) }
+    ensures { result ≡ held_number (whole (take_number (drop i s.now))) }
 {
-    match number_at(s, i) {
-        Number::At(n, r) => {
-            if r == s.len() {
-                return Count::Of(n);
-            }
-            Count::BadCount
-        }
-        Number::Refused => Count::BadCount,
+    let (n, r) = number_at(s, i)?;
+    if r != s.len() {
+        return None;
     }
+    Some(n)
 }
 
 // The count that stands in s from index i on, up to its end.
-fn read_count(s: &[u8], i: usize) -> Count
+fn read_count(s: &[u8], i: usize) -> Result<u64, Refusal>
     requires { i ≤ length s.now }
     ensures { result ≡ held_count (read_count (drop i s.now)) }
 {
-    read_whole(s, without_plus(s, i))
+    read_whole(s, without_plus(s, i)).ok_or(Refusal::BadAction)
 }
 
 // The action a, which takes no argument, if nothing stands in s from index i on.
-fn read_bare(a: Action, s: &[u8], i: usize) -> ParsedAction
+fn read_bare(a: Action, s: &[u8], i: usize) -> Result<Action, Refusal>
     requires { i ≤ length s.now }
     ensures { result ≡ held_bare a (drop i s.now) }
 {
-    if i == s.len() {
-        return ParsedAction::Parsed(a);
+    if i != s.len() {
+        return Err(Refusal::BadAction);
     }
-    ParsedAction::Refused(Refusal::BadAction)
+    Ok(a)
 }
 
 // `mask` with the argument that stands in s from index i on.
-fn read_mask(s: &[u8], i: usize) -> ParsedAction
+fn read_mask(s: &[u8], i: usize) -> Result<Action, Refusal>
     requires { i ≤ length s.now }
     ensures { (j n : ℕ) → result ≡ held_action j n (read_mask (drop i s.now)) }
 {
     if i == s.len() {
-        return ParsedAction::Parsed(Action::Mask(b'*'));
+        return Ok(Action::Mask(b'*'));
     }
     if i + 1 == s.len() {
-        return ParsedAction::Parsed(Action::Mask(s[i]));
+        return Ok(Action::Mask(s[i]));
     }
-    ParsedAction::Refused(Refusal::BadAction)
-}
-
-// `first` and `last` with a count.
-fn first_of(count: Count) -> ParsedAction
-    ensures { result ≡ held_counted Action.First count }
-{
-    match count {
-        Count::Of(n) => ParsedAction::Parsed(Action::First(n)),
-        Count::BadCount => ParsedAction::Refused(Refusal::BadAction),
-    }
-}
-
-fn last_of(count: Count) -> ParsedAction
-    ensures { result ≡ held_counted Action.Last count }
-{
-    match count {
-        Count::Of(n) => ParsedAction::Parsed(Action::Last(n)),
-        Count::BadCount => ParsedAction::Refused(Refusal::BadAction),
-    }
+    Err(Refusal::BadAction)
 }
 
 // Whether a minus stands in s at index i.
@@ -218,10 +175,7 @@ fn is_negative(s: &[u8], i: usize) -> bool
     requires { i ≤ length s.now }
     ensures { result ≡ is_negative (drop i s.now) }
 {
-    if i < s.len() {
-        return s[i] == b'-';
-    }
-    false
+    (i < s.len()) && (s[i] == b'-')
 }
 
 // Where the digits begin that stand in s from index i on, behind a sign if there is one.
@@ -251,23 +205,20 @@ fn signed(minus: bool, days: u64) -> i64
     days as i64
 }
 
-// `shift` with a number of days.
-fn shift_by(minus: bool, count: Count) -> ParsedAction
-    ensures { result ≡ held_days (days_of minus (count_of count)) }
+// The days that stand in s from index i on, up to its end.
+fn read_days(s: &[u8], i: usize) -> Result<i64, Refusal>
+    requires { i ≤ length s.now }
+    ensures { result ≡ held_days (Spec.read_days (drop i s.now)) }
 {
-    match count {
-        Count::Of(n) => {
-            if n <= DAYS_MAX {
-                return ParsedAction::Parsed(Action::Shift(signed(minus, n)));
-            }
-            ParsedAction::Refused(Refusal::BadDayCount)
-        }
-        Count::BadCount => ParsedAction::Refused(Refusal::BadDayCount),
+    let days = read_whole(s, without_sign(s, i)).ok_or(Refusal::BadDayCount)?;
+    if DAYS_MAX < days {
+        return Err(Refusal::BadDayCount);
     }
+    Ok(signed(is_negative(s, i), days))
 }
 
 // The action that v names, with the argument that stands in s from index i on; s stands in a text from index base on.
-fn read_argument(v: Verb, s: &[u8], i: usize, base: usize) -> ParsedAction
+fn read_argument(v: Verb, s: &[u8], i: usize, base: usize) -> Result<Action, Refusal>
     requires { (i ≤ length s.now) × (base + length s.now < 2 ^ 64) }
     ensures { result ≡ held_read (base + i) (length s.now - i) (or_refused (refusal_of v) (read_argument v (drop i s.now))) }
 {
@@ -279,18 +230,18 @@ fn read_argument(v: Verb, s: &[u8], i: usize, base: usize) -> ParsedAction
         Verb::Replace => {
             let start = base + i;
             let len = s.len() - i;
-            ParsedAction::Parsed(Action::Replace { start, len })
+            Ok(Action::Replace { start, len })
         }
         Verb::Mask => read_mask(s, i),
-        Verb::First => first_of(read_count(s, i)),
-        Verb::Last => last_of(read_count(s, i)),
-        Verb::Shift => shift_by(is_negative(s, i), read_whole(s, without_sign(s, i))),
-        Verb::Unknown => ParsedAction::Refused(Refusal::BadAction),
+        Verb::First => Ok(Action::First(read_count(s, i)?)),
+        Verb::Last => Ok(Action::Last(read_count(s, i)?)),
+        Verb::Shift => Ok(Action::Shift(read_days(s, i)?)),
+        Verb::Unknown => Err(Refusal::BadAction),
     }
 }
 
 // Reads s, which has no blanks around it and stands in a text from index base on, as an action.
-pub fn parse(s: &[u8], base: usize) -> ParsedAction
+pub fn parse(s: &[u8], base: usize) -> Result<Action, Refusal>
     requires { base + length s.now < 2 ^ 64 }
     ensures { result ≡ held_read (base + argument_at s.now) (length (argument s.now)) (read_action s.now) }
 {
@@ -316,10 +267,7 @@ fn put_replacement(text: &[u8], start: usize, len: usize, out: &mut [u8], at: us
 fn magnitude(n: i64) -> u64
     ensures { result ≡ nat_abs n }
 {
-    if n < 0 {
-        return (-1 - n) as u64 + 1;
-    }
-    n as u64
+    n.unsigned_abs()
 }
 
 // Writes the days n to out from index at on, and returns the index behind them.
@@ -405,16 +353,20 @@ pub fn printed_len(a: Action, text: &[u8]) -> usize
     }
 }
 
+// How many of len bytes are kept where n may be.
+fn kept_len(len: usize, n: u64) -> usize
+    ensures { result ≡ min n len }
+{
+    n.min(len as u64) as usize
+}
+
 // Writes the first n bytes of value, or all if there are no more, to out from index at on, and returns the index behind them.
 fn keep_first(value: &[u8], n: u64, out: &mut [u8], at: usize) -> usize
     requires { at + length (take n value.now) ≤ length out.old }
     ensures { Wrote out.old at (take n value.now) out.new result }
 {
-    if n < value.len() as u64 {
-        let end = n as usize;
-        return copy_at(out, at, &value[0..end]);
-    }
-    copy_at(out, at, value)
+    let end = kept_len(value.len(), n);
+    copy_at(out, at, &value[..end])
 }
 
 // Writes the last n bytes of value, or all if there are no more, to out from index at on, and returns the index behind them.
@@ -422,11 +374,8 @@ fn keep_last(value: &[u8], n: u64, out: &mut [u8], at: usize) -> usize
     requires { at + length (drop (length value.now - n) value.now) ≤ length out.old }
     ensures { Wrote out.old at (drop (length value.now - n) value.now) out.new result }
 {
-    if n < value.len() as u64 {
-        let start = value.len() - n as usize;
-        return copy_at(out, at, &value[start..]);
-    }
-    copy_at(out, at, value)
+    let start = value.len() - kept_len(value.len(), n);
+    copy_at(out, at, &value[start..])
 }
 
 // Writes the text that the action a, whose replacement stands in text, puts in the place of value, under key, to out from index at on,
@@ -448,29 +397,19 @@ pub fn apply(a: Action, text: &[u8], key: u64, value: &[u8], out: &mut [u8], at:
     }
 }
 
-// How many of len bytes are kept where n may be.
-fn kept_len(len: usize, n: u64) -> usize
-    ensures { result ≡ min n len }
-{
-    if n < len as u64 {
-        return n as usize;
-    }
-    len
-}
-
 // The length of what the action a writes in the place of value, if it writes.
-pub fn applied_len(a: Action, value: &[u8]) -> Applied
+pub fn applied_len(a: Action, value: &[u8]) -> Option<usize>
     ensures { (t : Text) (key : ℕ) → ActionHeld t a → result ≡ answer (Spec.apply key (as_action t a) value.now) }
 {
     match a {
-        Action::Keep => Applied::Nothing,
-        Action::Clear => Applied::Written(0),
-        Action::Null => Applied::Nothing,
-        Action::Replace { start: _, len } => Applied::Written(replacement_len(len)),
-        Action::Mask(_) => Applied::Written(value.len()),
-        Action::First(n) => Applied::Written(kept_len(value.len(), n)),
-        Action::Last(n) => Applied::Written(kept_len(value.len(), n)),
-        Action::Pseudonym => Applied::Written(16),
-        Action::Shift(n) => Applied::Written(shifted_len(value, n)),
+        Action::Keep => None,
+        Action::Clear => Some(0),
+        Action::Null => None,
+        Action::Replace { start: _, len } => Some(replacement_len(len)),
+        Action::Mask(_) => Some(value.len()),
+        Action::First(n) => Some(kept_len(value.len(), n)),
+        Action::Last(n) => Some(kept_len(value.len(), n)),
+        Action::Pseudonym => Some(16),
+        Action::Shift(n) => Some(shifted_len(value, n)),
     }
 }

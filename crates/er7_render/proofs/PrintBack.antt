@@ -17,7 +17,7 @@ use Rattle.message_model.proofs.PrintBack.{message_prints}
 use Rattle.er7_table.specs.Table.{list_of, name_at, label_at, BytesNamed, AllNamed, segment_at, segments_from}
 use Rattle.er7_table.proofs.Laws.{segments_in_store}
 use Rattle.er7_message.specs.declared.message.Layout.{Layout}
-use Rattle.er7_message.specs.declared.message.ParsedMessage.TheVariants.{Read}
+use Rattle.std.specs.Prelude.{Ok}
 use Rattle.er7_message.specs.Parsed.{fault_of, Standing, ParsedAs}
 use Rattle.er7_render.specs.Rendered.{rendered}
 
@@ -86,7 +86,7 @@ pub standing_prints : {t : Text} {m : Message} {segs cells : List ℕ} {c : Layo
 unfolding rendered print_message
 standing_prints w = rw (w.separators, w.last, w.segments)
 
-module _ {t : Text} {segs cells : List ℕ} {c : Layout} (p : ParsedAs t (message_fault t) (message_of t) segs cells (Read c)) where
+module _ {t : Text} {segs cells : List ℕ} {c : Layout} (p : ParsedAs t (message_fault t) (message_of t) segs cells (Ok c)) where
   no_fault : message_fault t ≡ none
   unfolding fault_of
   no_fault = sym p.is

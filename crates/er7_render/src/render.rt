@@ -77,11 +77,9 @@ fn put_leaves(
     requires { (first ≤ end) × Good cells.now store.now end (length store.now) × (at + length (leaves_text s header cells.now store.now first (end - first)) ≤ length out.old) }
     ensures { Wrote out.old at (leaves_text s header cells.now store.now first (end - first)) out.new result }
 {
-    let mut i = first;
     let mut k = at;
-    while i < end {
+    for i in first..end {
         k = print_leaf(s, header, cells, i, store, out, k);
-        i += 1;
     }
     k
 }
@@ -156,10 +154,8 @@ pub fn render(
     ensures { Wrote out.old 0 (rendered layout segs.now cells.now store.now) out.new result }
 {
     let mut at = 0;
-    let mut k = 0;
-    while k < layout.segments {
+    for k in 0..layout.segments {
         at = print_segment(layout, k, segs, cells, store, out, at);
-        k += 1;
     }
     at
 }

@@ -61,10 +61,8 @@ fn pack(n: usize, cells: &mut [usize], store: &[u8], spare: &mut [u8]) -> usize
     ensures { Packed cells.old store.now n cells.new spare.new result }
 {
     let mut at = 0;
-    let mut i = 0;
-    while i < n {
+    for i in 0..n {
         at = pack_leaf(cells, i, store, spare, at);
-        i += 1;
     }
     at
 }

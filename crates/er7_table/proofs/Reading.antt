@@ -1,20 +1,23 @@
 -- Reading a text's leaves. Assumes nothing.
 use mathlib.Core.Path.{◌≡◌, refl, sym, ap, ap₂, ◌∙◌}
-use mathlib.Core.Bool.{Bool, true, false}
+use mathlib.Core.Bool.{Bool, true, false, not}
 use mathlib.Core.Logic.{dite}
 use mathlib.Core.Option.{some}
-use mathlib.Core.List.{List, [], ◌∷◌, ◌++◌}
+use mathlib.Core.List.{List, [], ◌∷◌, ◌++◌, append-nil, append_assoc}
 use Prim.Native.Nat.{ℕ, suc, ◌+◌, ◌-◌, ◌≤◌, ◌<◌}
 use native.Mathlib.Decide.{ℕ_discrete}
+use native.Mathlib.Numerals.{one-add}
 use native.Mathlib.Omega.{arith}
 use borrow.Author.Tests.{eq-eqb, ne_eqb}
 use lib.Dec.{eqb}
-use lib.ListN.{length, take, drop, get_or, length-append, drop_of_length-le}
-use lib.Seq.{append_snoc, length-take-le}
+use lib.ListN.{length, take, drop, get_or, length-append, length-drop, drop_of_length-le}
+use Rattle.std.specs.List.{position_or_len}
+use Rattle.std.proofs.lemmas.List.Sums.{prefix_len-le-length, passes_at_first}
+use lib.Seq.{append_snoc, drop-drop, get_or-drop, length-take-le}
 use Rattle.text.specs.Text.{Text, part}
 use Rattle.text.proofs.Kept.{part_take}
 use Rattle.text.proofs.Laws.{by_cond}
-use Rattle.text.proofs.Runs.{drop_step, part_more}
+use Rattle.text.proofs.Runs.{drop_step}
 use Rattle.er7.specs.declared.message.Place.{Place}
 use Rattle.er7.specs.declared.separators.Separators.{Separators}
 use Rattle.message_model.specs.Message.{Leaf, leaf, ends_leaf, next, leaves}
@@ -22,6 +25,10 @@ use Rattle.er7_table.specs.Table.{cell, list_of, place_at, stored_text, leaf_at,
 use Rattle.er7_table.specs.Filling.{LeafEnd, LeafPut, LeavesRead}
 use Rattle.er7_table.proofs.Laws.{list_snoc, list_ext, list_length, leaves_kept, place_kept}
 use Rattle.refusal.specs.Limits.{LEAVES_MAX}
+use Rattle.refusal.specs.declared.Refusal.{Refusal}
+use Rattle.refusal.specs.declared.Refusal.TheVariants.{TooMany}
+use Rattle.std.specs.declared.result.Result.{Result}
+use Rattle.std.specs.Prelude.{Ok, Err}
 
 -- ---- `next`, case by case
 module _ (s : Separators) (x : ℕ) (p : Place) where
@@ -118,30 +125,33 @@ leaves_some s [] w p = omega arith
 leaves_some s (x ∷ t) w p =
     by_cond (λ (xs : List Leaf). 1 ≤ length xs) (ends_leaf s x) _ _ (λ _. omega arith) (λ _. leaves_some s t (w ++ x ∷ []) p)
 
--- ---- the leaf that begins at index i has come to index j
-pub record Running (s : Separators) (t : Text) (i j : ℕ) : Type 0 where
-  pub low : i ≤ j
-  pub high : j ≤ length t
-  pub runs : (p : Place) → leaves s p [] (drop i t) ≡ leaves s p (part t i (j - i)) (drop j t)
+-- ---- one leaf: the bytes before the first delimiter
 
-pub running_start : (s : Separators) (t : Text) (i : ℕ) → i ≤ length t → Running s t i i
+leaves_front : (s : Separators) (p : Place) (w t : Text)
+    → leaves s p w t ≡ leaves s p (w ++ take (position_or_len (ends_leaf s) t) t) (drop (position_or_len (ends_leaf s) t) t)
+unfolding leaves
+leaves_front s p w [] = rw append-nil
+leaves_front s p w (x ∷ t) = go (ends_leaf s x) refl (leaves_front s p (w ++ x ∷ []) t)
+  where
+    go : (b : Bool) → ends_leaf s x ≡ b
+        → leaves s p (w ++ x ∷ []) t ≡ leaves s p (w ++ x ∷ [] ++ take (position_or_len (ends_leaf s) t) t) (drop (position_or_len (ends_leaf s) t) t)
+        → leaves s p w (x ∷ t) ≡ leaves s p (w ++ take (position_or_len (ends_leaf s) (x ∷ t)) (x ∷ t)) (drop (position_or_len (ends_leaf s) (x ∷ t)) (x ∷ t))
+    go true e more = rw (e, append-nil, e)
+    go false e more = rw (e, one-add) (more ∙ rw append_assoc)
+
+pub leaf_ends : (s : Separators) (t : Text) (i n : ℕ) → i ≤ length t → n ≡ position_or_len (ends_leaf s) (drop i t) → LeafEnd s t i (i + n)
 unfolding part
-running_start s t i h = let z : i - i ≡ 0 = omega arith in record { low = omega arith; high = h; runs = λ p. rw z }
-
-module _ {s : Separators} {t : Text} {i j : ℕ} (g : Running s t i j) {b : Bool} (q : b ≡ ends_leaf s (get_or t j 0)) where
-  pub running_more : j < length t → b ≡ false → Running s t i (j + 1)
-  running_more h e =
-      let n : j + 1 - i ≡ j - i + 1 = omega (arith, g.low) in record {
-        low = omega (arith, g.low);
-        high = omega arith;
-        runs = λ p. g.runs p ∙ leaves_more s t p (part t i (j - i)) j h (sym q ∙ e) ∙ rw (n, part_more t i (j - i) j (omega (arith, g.low)) h);
-      }
-
-  pub running_stop : j < length t → b ≡ true → LeafEnd s t i j
-  running_stop h e = record { low = g.low; high = g.high; runs = g.runs; stops = λ _. sym q ∙ e }
-
-pub running_end : {s : Separators} {t : Text} {i j : ℕ} → Running s t i j → length t ≤ j → LeafEnd s t i j
-running_end g h = record { low = g.low; high = g.high; runs = g.runs; stops = λ k. absurd (omega arith) }
+leaf_ends s t i n h e =
+    let z : i + n - i ≡ n = omega arith in
+    let most : n ≤ length t - i = rw e (rw length-drop at (prefix_len-le-length (λ b. not (ends_leaf s b)) (drop i t))) in
+    record {
+      low = omega arith;
+      high = omega (arith, most);
+      runs = λ p. rw (z, ← drop-drop n i t) (rw e (leaves_front s p [] (drop i t)));
+      stops = λ l.
+          let inside : position_or_len (ends_leaf s) (drop i t) < length (drop i t) = rw (length-drop, ← e) (omega arith) in
+          rw (e, ← get_or-drop i t (position_or_len (ends_leaf s) (drop i t)) 0) (passes_at_first (ends_leaf s) (drop i t) 0 inside);
+    }
 
 -- ---- the leaves from index `from` on, of which the rows n₀ to before n are read; the next one begins at index i and stands at p
 pub record Going (s : Separators) (t : Text) (from : ℕ) (p₀ : Place) (n₀ : ℕ) (cells₀ : List ℕ) (i n : ℕ) (p : Place) (cells : List ℕ) : Type 0 where
@@ -174,13 +184,13 @@ module _ (s : Separators) (t : Text) (from : ℕ) (p₀ : Place) (n₀ : ℕ) (c
       }
 
 module _ {s : Separators} {t : Text} {from : ℕ} {p₀ : Place} {n₀ : ℕ} {cells₀ : List ℕ} {i n : ℕ} {p : Place} {cells : List ℕ} (go : Going s t from p₀ n₀ cells₀ i n p cells) where
-  pub going_full : n ≡ LEAVES_MAX → LeavesRead (leaves s p₀ [] (drop from t)) t (length t) n₀ cells₀ cells 4097
+  pub going_full : LEAVES_MAX ≤ n → LeavesRead (leaves s p₀ [] (drop from t)) t (length t) n₀ cells₀ cells (Err TooMany)
   unfolding leaves_from
   going_full e = record {
-    fitted = λ h. absurd (omega (arith, h));
-    few = λ h. absurd (omega (arith, h));
-    too_many = λ _. rw (go.whole, length-append, list_length) (omega (arith, leaves_some s (drop i t) [] p, go.low));
-    most = omega arith;
+    fitted = tt;
+    few = tt;
+    most = tt;
+    too_many = (refl, rw (go.whole, length-append, list_length) (omega (arith, leaves_some s (drop i t) [] p, go.low)));
     before = go.before;
   }
 
@@ -213,21 +223,21 @@ module _ {s : Separators} {t : Text} {from : ℕ} {p₀ : Place} {n₀ : ℕ} {c
     before_more : (j k : ℕ) → k < 8 → j < n₀ → cell cells' j k ≡ cell cells₀ j k
     before_more j k h c = kept j k h (omega (arith, go.low)) ∙ go.before j k h c
 
-    pub going_last : n < LEAVES_MAX → e ≡ length t → LeavesRead (leaves s p₀ [] (drop from t)) t (length t) n₀ cells₀ cells' (n + 1)
+    pub going_last : n < LEAVES_MAX → e ≡ length t → LeavesRead (leaves s p₀ [] (drop from t)) t (length t) n₀ cells₀ cells' (Ok (n + 1))
     unfolding leaves_from
     going_last m q =
         let all : leaves s p₀ [] (drop from t) ≡ leaves_from (λ i. false) cells' t n₀ (n + 1 - n₀) =
         go.whole ∙ ap (λ (z : List Leaf). leaves_from (λ i. false) cells t n₀ (n - n₀) ++ z) (end.runs p ∙ leaves_end s t p _ e (omega arith)) ∙ sym rows_more in
         record {
-          fitted = λ _. record {
+          fitted = record {
             count = rw (all, list_length) (omega (arith, go.low));
             are = sym all;
             ends = ends_more;
             within = within_rows;
           };
-          few = λ _. omega (arith, go.ahead, go.inside);
-          too_many = λ h. absurd (omega arith);
+          few = omega (arith, go.ahead, go.inside);
           most = omega arith;
+          too_many = tt;
           before = before_more;
         }
 
@@ -247,22 +257,21 @@ module _ {s : Separators} {t : Text} {from : ℕ} {p₀ : Place} {n₀ : ℕ} {c
     }
 
 -- what was read from the front of a text stands in the text
-pub read_front : {xs : List Leaf} {t : Text} {e n : ℕ} {cells cells' : List ℕ} {r : ℕ} → e ≤ length t → LeavesRead xs (take e t) (length (take e t)) n cells cells' r → LeavesRead xs t e n cells cells' r
+pub read_front : {xs : List Leaf} {t : Text} {e n : ℕ} {cells cells' : List ℕ} (r : Result ℕ Refusal) → e ≤ length t → LeavesRead xs (take e t) (length (take e t)) n cells cells' r → LeavesRead xs t e n cells cells' r
 unfolding leaves_from leaf_at stored_text
-read_front {xs} {t} {e} {n} {cells} {cells'} {r} l g =
+read_front {xs} {t} {e} {n} {cells} {cells'} (Ok m) l g =
     let len : length (take e t) ≡ e = length-take-le e t l in
     record {
-      fitted = λ f.
-          let w = g.fitted f in
-          record {
-            count = w.count;
-            are = list_ext (leaf_at (λ i. false) cells' t) (leaf_at (λ i. false) cells' (take e t)) n (r - n) (λ i a b.
-                rw (part_take t e (cell cells' i 1) (cell cells' i 2) (omega (arith, w.ends i a (omega arith), len)))) ∙ w.are;
-            ends = λ i a b. omega (arith, w.ends i a b, len);
-            within = λ i a b. within_more (place_at cells' i) (length (take e t)) (length t) (omega (arith, len)) (w.within i a b);
-          };
-      few = λ f. omega (arith, g.few f, len);
-      too_many = g.too_many;
+      fitted = record {
+        count = g.fitted.count;
+        are = list_ext (leaf_at (λ i. false) cells' t) (leaf_at (λ i. false) cells' (take e t)) n (m - n) (λ i a b.
+            rw (part_take t e (cell cells' i 1) (cell cells' i 2) (omega (arith, g.fitted.ends i a (omega arith), len)))) ∙ g.fitted.are;
+        ends = λ i a b. omega (arith, g.fitted.ends i a b, len);
+        within = λ i a b. within_more (place_at cells' i) (length (take e t)) (length t) (omega (arith, len)) (g.fitted.within i a b);
+      };
+      few = omega (arith, g.few, len);
       most = g.most;
+      too_many = tt;
       before = g.before;
     }
+read_front (Err f) l g = record { fitted = tt; few = tt; most = tt; too_many = g.too_many; before = g.before }

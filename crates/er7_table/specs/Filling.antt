@@ -1,5 +1,6 @@
 -- How the tables are filled. Assumes nothing: these are definitions.
-use Rattle.std.specs.Prelude.{◌≡◌, Bool, true, false, List, [], ◌∷◌, ℕ, ◌+◌, ◌-◌, ◌*◌, ◌≤◌, ◌<◌, length, drop, get_or}
+use Rattle.std.specs.Prelude.{◌≡◌, Bool, true, false, List, [], ◌∷◌, ℕ, ◌+◌, ◌-◌, ◌*◌, ◌≤◌, ◌<◌, length, drop, get_or, IfOk, IfErr}
+use Rattle.std.specs.declared.result.Result.{Result}
 use Rattle.std.proofs.Math.Option.{some}
 use Rattle.text.specs.Text.{Text, part}
 use Rattle.er7.specs.declared.message.Place.{Place}
@@ -7,6 +8,8 @@ use Rattle.er7.specs.declared.separators.Separators.{Separators}
 use Rattle.message_model.specs.Message.{Leaf, leaf, ends_leaf, leaves}
 use Rattle.er7_table.specs.Table.{cell, place_at, leaf_at, leaves_from, Within, first_leaf, label_at}
 use Rattle.refusal.specs.Limits.{LEAVES_MAX}
+use Rattle.refusal.specs.declared.Refusal.{Refusal}
+use Rattle.refusal.specs.declared.Refusal.TheVariants.{TooMany}
 
 -- r is where the leaf of t that begins at index i ends
 pub record LeafEnd (s : Separators) (t : Text) (i r : ℕ) : Type 0 where
@@ -41,11 +44,11 @@ pub record Filled (xs : List Leaf) (t : Text) (n : ℕ) (cells' : List ℕ) (r :
 pub record LeafRoom (cells : List ℕ) (m : ℕ) : Type 0 where
   pub room : (i : ℕ) → i < LEAVES_MAX → i < m → i * 8 + 8 ≤ length cells
 
--- the leaves xs became the rows from n to before r, of which there are no more than bytes before index e; or there are more than 4096 rows
--- with them; no row before them changed
-pub record LeavesRead (xs : List Leaf) (t : Text) (e n : ℕ) (cells cells' : List ℕ) (r : ℕ) : Type 0 where
-  pub fitted : r ≤ LEAVES_MAX → Filled xs t n cells' r
-  pub few : r ≤ LEAVES_MAX → r ≤ e
-  pub too_many : LEAVES_MAX < r → LEAVES_MAX < n + length xs
-  pub most : r ≤ 4097
+-- the leaves xs became the rows from n to before m, which r says, and of which there are no more than bytes before index e; or there are more
+-- than 4096 rows with them, which refuses them; no row before them changed
+pub record LeavesRead (xs : List Leaf) (t : Text) (e n : ℕ) (cells cells' : List ℕ) (r : Result ℕ Refusal) : Type 0 where
+  pub fitted : IfOk r (λ m. Filled xs t n cells' m)
+  pub few : IfOk r (λ m. m ≤ e)
+  pub most : IfOk r (λ m. m ≤ LEAVES_MAX)
+  pub too_many : IfErr r (λ f. (f ≡ TooMany) × (LEAVES_MAX < n + length xs))
   pub before : (i k : ℕ) → k < 8 → i < n → cell cells' i k ≡ cell cells i k

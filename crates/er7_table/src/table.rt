@@ -2,6 +2,7 @@
 // A leaf: the start and the length of its text in the store, 1 if it has vanished, and the four numbers of its place.
 // A segment: its first leaf, the three bytes of its name, and its occurrence. The row behind the last holds the number of leaves in the place of a first leaf.
 ghost use Rattle.std.specs.Prelude.{◌≡◌, [], ◌∷◌, ◌+◌, ◌-◌, ◌*◌, ◌^◌, ◌≤◌, ◌<◌, length, drop};
+ghost use Rattle.std.specs.List.{position_or_len};
 ghost use Rattle.message_model.specs.Message as Message;
 ghost use Rattle.er7_table.specs.Table.{place_at, Within, label_at, as_label, BytesNamed};
 ghost use Rattle.er7_table.specs.Filling.{LeafEnd, LeafPut, SegmentPut, LeafRoom, LeavesRead};
@@ -9,6 +10,7 @@ ghost use Rattle.refusal.specs.Limits.{LEAVES_MAX};
 
 use er7::message::{Label, Place};
 use er7::separators::Separators;
+use refusal::Refusal;
 use refusal::limits::LEAVES_MAX;
 
 // Whether b ends a leaf.
@@ -19,13 +21,11 @@ pub fn ends_leaf(s: Separators, b: u8) -> bool
 }
 
 // Whether three bytes are the name of a header.
+#[tactic(auto, unfolding(message_model::specs::Message::is_header_name, text::specs::Text::same, text::specs::Text::bytes))]
 pub fn is_header_name(a: u8, b: u8, c: u8) -> bool
     ensures { result ≡ Message.is_header_name (a ∷ b ∷ c ∷ []) }
 {
-    let msh = (a == b'M') & ((b == b'S') & (c == b'H'));
-    let fhs = (a == b'F') & ((b == b'H') & (c == b'S'));
-    let bhs = (a == b'B') & ((b == b'H') & (c == b'S'));
-    msh | fhs | bhs
+    matches!((a, b, c), (b'M', b'S', b'H') | (b'F' | b'B', b'H', b'S'))
 }
 
 // The place with these numbers.
@@ -92,19 +92,19 @@ pub fn label_at(segs: &[usize; 2056], k: usize) -> Label
     }
 }
 
+// How many bytes stand before the first delimiter.
+fn leaf_len(text: &[u8], s: Separators) -> usize
+    ensures { result ≡ position_or_len (λ b. Message.ends_leaf s b) text.now }
+{
+    text.iter().take_while(|&&b| !ends_leaf(s, b)).count()
+}
+
 // Where the leaf that begins at index i ends.
 pub fn leaf_end(text: &[u8], i: usize, s: Separators) -> usize
     requires { i ≤ length text.now }
     ensures { LeafEnd s text.now i result }
 {
-    let mut j = i;
-    while j < text.len() {
-        if ends_leaf(s, text[j]) {
-            return j;
-        }
-        j += 1;
-    }
-    j
+    i + leaf_len(&text[i..], s)
 }
 
 // Makes row i the leaf at p whose text is n bytes of the store from index start on.
@@ -146,7 +146,7 @@ pub fn put_segment(
 }
 
 // Reads the leaves of text from index from on, of which the first stands at place, into the rows from n0 on.
-// Returns the number of rows then; 4097 if there are more than 4096.
+// Returns the number of rows then; TooMany if there are more than 4096.
 pub fn read_leaves(
     text: &[u8],
     from: usize,
@@ -154,24 +154,20 @@ pub fn read_leaves(
     place: Place,
     n0: usize,
     cells: &mut [usize],
-) -> usize
+) -> Result<usize, Refusal>
     requires { (from ≤ length text.now) × (n0 ≤ LEAVES_MAX) × (n0 < from) × LeafRoom cells.old (length text.now) × Within place from }
     ensures { LeavesRead (Message.leaves s place [] (drop from text.now)) text.now (length text.now) n0 cells.old cells.new result }
 {
     let mut i = from;
-    let mut n = n0;
     let mut p = place;
-    loop {
-        if n == LEAVES_MAX {
-            return 4097;
-        }
+    for n in n0..LEAVES_MAX {
         let e = leaf_end(text, i, s);
         put_leaf(cells, n, p, i, e - i);
-        n += 1;
         if e == text.len() {
-            return n;
+            return Ok(n + 1);
         }
         p = next(s, text[e], p);
         i = e + 1;
     }
+    Err(Refusal::TooMany)
 }

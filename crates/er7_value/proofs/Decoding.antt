@@ -1,13 +1,7 @@
 -- Laws of `decode` and `value`: lengths, and a turn of the loop over plain values. Assumes nothing.
-use mathlib.Core.Path.{◌≡◌, refl, sym, ap, ◌∙◌}
-use mathlib.Core.Bool.{Bool, true, false, not, cond}
-use mathlib.Core.List.{[], ◌∷◌, ◌++◌, append-nil, append_assoc}
-use mathlib.Core.Option.{Option, none, some}
-use Prim.Native.Nat.{ℕ, suc, ◌+◌, ◌-◌, ◌≤◌, ◌<◌}
-use native.Mathlib.Omega.{arith}
-use borrow.Author.Tests.{eq-eqb, eqb-true, not-true, not-false}
-use lib.Dec.{eqb}
-use lib.ListN.{length, drop, get_or, length-append, length-take, length-drop, drop_of_length-le}
+use Rattle.std.proofs.Common.{◌≡◌, refl, sym, ap, ◌∙◌, Bool, true, false, not, cond, [], ◌∷◌, ◌++◌, append-nil, append_assoc, ℕ, suc, ◌+◌, ◌-◌, ◌≤◌, ◌<◌, arith, eq-eqb, eqb-true, eqb, length, drop, get_or, length-append, length-take, length-drop, drop_of_length-le, Some, None}
+use Rattle.std.proofs.Math.Option.{Option, none, some}
+use Rattle.std.proofs.lemmas.Bool.{not-true, not-false}
 use Rattle.text.specs.declared.bytes.Class.TheVariants.{AllBut}
 use Rattle.text.specs.Text.{Text, bytes, is_empty, is_in, run, rest, part, Wrote, RunEnd}
 use Rattle.text.proofs.Laws.{by_cond}
@@ -16,8 +10,7 @@ use Rattle.text.proofs.Words.{same_longer}
 use Rattle.text.proofs.Writes.{wrote_none, wrote_then, wrote_length}
 use Rattle.er7.specs.declared.separators.Separators.{Separators}
 use Rattle.message_model.specs.Value.{NULL, is_null, is_empty_or_null, delimiter_of, letter_run, pair, Mode, outside, inside, adds, goes_on, decode_from, decode, value}
-use Rattle.er7_value.specs.declared.escape.Delimiter.TheVariants.{Is, Unnamed}
-use Rattle.er7_value.specs.Escape.{held_delimiter}
+use Rattle.er7_value.specs.Escape.{held}
 
 -- ---- no bytes, and others
 
@@ -43,19 +36,19 @@ long_full t h = sym (null_only t (λ e. absurd (omega arith))) ∙ same_longer t
 -- ---- a pair
 
 -- a letter that names a delimiter, and another
-pub letter_named : (s : Separators) (l b : ℕ) → Is b ≡ held_delimiter (delimiter_of s l) → letter_run s l (delimiter_of s l) ≡ b ∷ []
-unfolding held_delimiter letter_run
+pub letter_named : (s : Separators) (l b : ℕ) → Some b ≡ held (delimiter_of s l) → letter_run s l (delimiter_of s l) ≡ b ∷ []
+unfolding held letter_run
 letter_named s l b e = go (delimiter_of s l) e
   where
-    go : (o : Option ℕ) → Is b ≡ held_delimiter o → letter_run s l o ≡ b ∷ []
+    go : (o : Option ℕ) → Some b ≡ held o → letter_run s l o ≡ b ∷ []
     go none e = cc
     go (some x) e = cc
 
-pub letter_unnamed : (s : Separators) (l : ℕ) → Unnamed ≡ held_delimiter (delimiter_of s l) → letter_run s l (delimiter_of s l) ≡ s.escape ∷ l ∷ s.escape ∷ []
-unfolding held_delimiter letter_run
+pub letter_unnamed : (s : Separators) (l : ℕ) → None ≡ held (delimiter_of s l) → letter_run s l (delimiter_of s l) ≡ s.escape ∷ l ∷ s.escape ∷ []
+unfolding held letter_run
 letter_unnamed s l e = go (delimiter_of s l) e
   where
-    go : (o : Option ℕ) → Unnamed ≡ held_delimiter o → letter_run s l o ≡ s.escape ∷ l ∷ s.escape ∷ []
+    go : (o : Option ℕ) → None ≡ held o → letter_run s l o ≡ s.escape ∷ l ∷ s.escape ∷ []
     go none e = refl
     go (some x) e = cc
 

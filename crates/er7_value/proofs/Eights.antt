@@ -1,15 +1,9 @@
--- Laws of a comparison eight bytes at a time, and of the first byte. Assumes nothing.
-use mathlib.Core.Path.{◌≡◌, refl, sym, ap, ◌∙◌}
-use mathlib.Core.Bool.{Bool, true, false, ◌&&◌, and_assoc}
-use mathlib.Core.List.{[], ◌∷◌, ◌++◌}
-use Prim.Native.Nat.{ℕ, ◌+◌, ◌-◌, ◌≤◌, ◌<◌}
-use native.Mathlib.Omega.{arith}
-use lib.Dec.{eqb}
-use lib.ListN.{length, take, drop, get_or}
-use lib.Seq.{take_all, take-take, take-add, drop-drop}
+-- Laws of a comparison eight bytes at a time. Assumes nothing.
+use Rattle.std.proofs.Common.{◌≡◌, refl, sym, ap, ◌∙◌, ℕ, ◌+◌, ◌-◌, ◌≤◌, ◌<◌, Bool, true, false, ◌&&◌, [], ◌∷◌, ◌++◌, length, take, drop, get_or, arith, eqb, take_all, take-take, take-add, drop-drop}
+use Rattle.std.proofs.Math.Bool.{and_assoc}
 use Rattle.text.specs.Text.{Text, same, begins, part}
 use Rattle.text.proofs.Laws.{and_id}
-use Rattle.text.proofs.Runs.{drop_step, part_more}
+use Rattle.text.proofs.Runs.{part_more}
 use Rattle.text.proofs.Kept.{part_take, part_length}
 use Rattle.text.proofs.Words.{same_refl, same_eq}
 
@@ -92,22 +86,3 @@ module _ (v t : Text) (i : ℕ) where
       let f : take last v ≡ part t i last = sym (take-take last j v l) ∙ ap (take last) g.is ∙ take-take last j (drop i t) l in
       let k : length v ≡ last + 8 = omega arith in
       sym (begins_itself v (drop i t) (sym (take_all (length v) v (omega arith)) ∙ eight_more last (sym e) f k))
-
--- ---- the first byte
-
-pub first_none : (v s : Text) → length v ≡ 0 → true ≡ begins (take 1 v) s
-unfolding begins same
-first_none [] s h = refl
-first_none (x ∷ v) s h = absurd (omega arith)
-
-pub first_byte : (v t : Text) (i : ℕ) → 0 < length v → i < length t → eqb (get_or v 0 0) (get_or t i 0) ≡ begins (take 1 v) (drop i t)
-unfolding begins same
-first_byte [] t i h l = absurd (omega arith)
-first_byte (x ∷ v) t i h l = rw (drop_step t i l) (sym (and_id (eqb x (get_or t i 0))))
-
--- where the first byte differs, v does not stand
-pub first_differs : (v s : Text) → begins (take 1 v) s ≡ false → begins v s ≡ false
-unfolding begins same
-first_differs [] s e = e
-first_differs (x ∷ v) [] e = refl
-first_differs (x ∷ v) (y ∷ s) e = let f : eqb x y ≡ false = sym (and_id (eqb x y)) ∙ e in rw f

@@ -1,37 +1,30 @@
 -- Laws of `encode`: lengths, and a turn of the loops over plain values. Assumes nothing.
-use mathlib.Core.Path.{◌≡◌, refl, sym, ap, ◌∙◌}
-use mathlib.Core.Bool.{Bool, true, false, cond, ◌||◌}
-use mathlib.Core.List.{[], ◌∷◌, ◌++◌, append-nil, append_assoc}
-use mathlib.Core.Option.{Option, none, some}
-use Prim.Native.Nat.{ℕ, ◌+◌, ◌*◌, ◌≤◌, ◌<◌}
-use native.Mathlib.Numerals.{add-one}
-use native.Mathlib.Omega.{arith}
-use lib.ListN.{length, take, drop, get_or, length-append, take-append-drop}
-use lib.Dec.{eqb}
-use lib.Seq.{take-suc, take_all}
+use Rattle.std.proofs.Common.{◌≡◌, refl, sym, ap, ◌∙◌, Bool, true, false, cond, ◌||◌, [], ◌∷◌, ◌++◌, append-nil, append_assoc, ℕ, ◌+◌, ◌*◌, ◌≤◌, ◌<◌, add-one, arith, length, take, drop, get_or, length-append, take-append-drop, eqb, take-suc, take_all, Some, None}
+use Rattle.std.proofs.Math.Option.{Option, none, some}
+use Rattle.std.specs.List.{sum_by}
+use Rattle.std.proofs.lemmas.List.Sums.{sum_by-cons}
 use Rattle.text.specs.Text.{Text, Wrote}
 use Rattle.text.proofs.Writes.{wrote_none, wrote_then, wrote_length}
 use Rattle.er7.specs.declared.separators.Separators.{Separators}
 use Rattle.message_model.specs.Value.{letter_of, encode_byte, encode}
-use Rattle.er7_value.specs.declared.escape.Letter.TheVariants.{Of, NoDelimiter}
-use Rattle.er7_value.specs.Escape.{held_letter}
+use Rattle.er7_value.specs.Escape.{held}
 
 -- ---- a byte
 
 -- a delimiter, and another byte
-pub byte_escaped : (s : Separators) (b l : ℕ) → Of l ≡ held_letter (letter_of s b) → encode_byte s b (letter_of s b) ≡ s.escape ∷ l ∷ s.escape ∷ []
-unfolding held_letter encode_byte
+pub byte_escaped : (s : Separators) (b l : ℕ) → Some l ≡ held (letter_of s b) → encode_byte s b (letter_of s b) ≡ s.escape ∷ l ∷ s.escape ∷ []
+unfolding held encode_byte
 byte_escaped s b l e = go (letter_of s b) e
   where
-    go : (o : Option ℕ) → Of l ≡ held_letter o → encode_byte s b o ≡ s.escape ∷ l ∷ s.escape ∷ []
+    go : (o : Option ℕ) → Some l ≡ held o → encode_byte s b o ≡ s.escape ∷ l ∷ s.escape ∷ []
     go none e = cc
     go (some x) e = cc
 
-pub byte_itself : (s : Separators) (b : ℕ) → NoDelimiter ≡ held_letter (letter_of s b) → encode_byte s b (letter_of s b) ≡ b ∷ []
-unfolding held_letter encode_byte
+pub byte_itself : (s : Separators) (b : ℕ) → None ≡ held (letter_of s b) → encode_byte s b (letter_of s b) ≡ b ∷ []
+unfolding held encode_byte
 byte_itself s b e = go (letter_of s b) e
   where
-    go : (o : Option ℕ) → NoDelimiter ≡ held_letter o → encode_byte s b o ≡ b ∷ []
+    go : (o : Option ℕ) → None ≡ held o → encode_byte s b o ≡ b ∷ []
     go none e = refl
     go (some x) e = cc
 
@@ -55,6 +48,14 @@ unfolding encode_byte
 byte_length s b (some l) = omega arith
 byte_length s b none = omega arith
 
+byte_long : (s : Separators) (b : ℕ) → length (encode_byte s b (letter_of s b)) ≤ 3
+unfolding encode_byte
+byte_long s b = go (letter_of s b)
+  where
+    go : (o : Option ℕ) → length (encode_byte s b o) ≤ 3
+    go (some l) = omega arith
+    go none = omega arith
+
 -- ---- a value
 
 pub encode_length : (s : Separators) (v : Text) → length v ≤ length (encode s v)
@@ -71,6 +72,20 @@ encode_same s (b ∷ v) e = go (letter_of s b) e (encode_same s v) (encode_lengt
     go : (o : Option ℕ) → length (encode_byte s b o ++ encode s v) ≡ length (b ∷ v) → (length (encode s v) ≡ length v → encode s v ≡ v) → length v ≤ length (encode s v) → encode_byte s b o ++ encode s v ≡ b ∷ v
     go none e f l = ap (λ (w : Text). b ∷ w) (f (omega arith))
     go (some x) e f l = absurd (omega arith)
+
+pub encode_long : (s : Separators) (v : Text) → length (encode s v) ≤ 3 * length v
+unfolding encode
+encode_long s [] = omega arith
+encode_long s (b ∷ v) = simp length-append (omega (arith, byte_long s b, encode_long s v))
+
+-- a sum over the bytes
+abbrev pub run_len : Separators → ℕ → ℕ
+run_len s b = length (encode_byte s b (letter_of s b))
+
+pub encode_sum : (s : Separators) (v : Text) → sum_by (run_len s) v ≡ length (encode s v)
+unfolding encode
+encode_sum s [] = refl
+encode_sum s (b ∷ v) = sum_by-cons _ b v ∙ rw (encode_sum s v, length-append)
 
 -- ---- up to an index
 
@@ -102,25 +117,6 @@ to_length s v j =
     rw (e, length-append) (omega arith)
 
 -- ---- the loops
-
--- n is the length of what is written for the first j bytes of v
-pub record Counting (s : Separators) (v : Text) (n j : ℕ) : Type 0 where
-  pub within : j ≤ length v
-  pub few : n ≤ 3 * j
-  pub is : n ≡ length (encoded_to s v j)
-
-pub counting_start : (s : Separators) (v : Text) → Counting s v 0 0
-counting_start s v = record { within = omega arith; few = omega arith; is = sym (ap length (to_none s v)) }
-
-pub counting_more : {s : Separators} {v : Text} {n j k : ℕ} → Counting s v n j → j < length v → (k ≡ length (encode_byte s (get_or v j 0) (letter_of s (get_or v j 0)))) × (k ≤ 3) → Counting s v (n + k) (j + 1)
-counting_more {s} {v} {n} {j} {k} g h e = record {
-  within = omega arith;
-  few = omega (arith, g.few, e.1);
-  is = rw (to_more s v j h, length-append) (omega (arith, g.is, e.0));
-}
-
-pub counting_end : {s : Separators} {v : Text} {n j : ℕ} → Counting s v n j → length v ≤ j → (n ≡ length (encode s v)) × (n ≤ 3 * length v)
-counting_end {s} {v} {n} {j} g h = (g.is ∙ ap length (to_all s v j h), omega (arith, g.few, g.within))
 
 -- what is written for the first j bytes of v stands in d from index at to index k
 pub record Encoding (s : Separators) (v d₀ : Text) (at j : ℕ) (d : Text) (k : ℕ) : Type 0 where

@@ -1,19 +1,10 @@
 -- Laws of `begins`, `ends_word` and `find_word`: from an index on, over plain values. Assumes nothing.
-use mathlib.Core.Path.{◌≡◌, refl, sym, ap, ◌∙◌}
-use mathlib.Core.Bool.{Bool, true, false, not, ◌||◌}
-use mathlib.Core.List.{[], ◌∷◌}
-use Prim.Native.Nat.{ℕ, zero, suc, ◌+◌, ◌-◌, ◌≤◌, ◌<◌}
-use native.Mathlib.Nat.{add-zero}
-use native.Mathlib.Numerals.{add-one}
-use native.Mathlib.Omega.{arith}
-use lib.ListN.{length, take, drop, get_or, length-take, length-drop, drop_of_length-le}
-use lib.Seq.{drop-drop, get_or-take, get_or-drop}
+use Rattle.std.proofs.Common.{◌≡◌, refl, sym, ap, ◌∙◌, ℕ, zero, suc, ◌+◌, ◌-◌, ◌≤◌, ◌<◌, max, Bool, true, false, not, ◌&&◌, ◌||◌, [], ◌∷◌, length, take, drop, get_or, add-one, add-zero, add_assoc, eq-eqb, length-take, length-drop, arith, ne_eqb, eqb, drop_of_length-le, drop-drop, get_or-take, get_or-drop}
 use Rattle.text.specs.declared.bytes.Class.TheVariants.{Alphanumeric}
-use Rattle.text.specs.Text.{Text, is_in, is_alphanumeric, begins, part}
+use Rattle.text.specs.Text.{Text, is_in, is_alphanumeric, begins, same, part}
 use Rattle.text.proofs.Laws.{and_false}
 use Rattle.text.proofs.Runs.{drop_step}
-use Rattle.text.proofs.Kept.{part_length}
-use Rattle.text.proofs.Words.{same_longer, Comparing, comparing_start, comparing_more, comparing_differs, comparing_all}
+use Rattle.text.proofs.Words.{same_longer}
 use Rattle.message_model.specs.Value.{ends_word, is_hit, find_word, is_whole_word}
 use Rattle.er7_value.specs.Starts.{letter_before}
 
@@ -30,22 +21,24 @@ hit_short : (v t : Text) → length t < length v → begins v t ≡ false
 unfolding begins
 hit_short v t h = same_longer v (take (length v) t) (λ e. absurd (omega (arith, e, length-take (length v) t)))
 
-module _ (v t : Text) (i : ℕ) where
-  -- v stands in t from index i on, compared up to index j
-  pub hit_start : i + length v ≤ length t → Comparing v (part t i (length v)) 0
-  hit_start h = comparing_start v (part t i (length v)) (sym (part_length t i (length v) h))
+-- v stands in t from index i on if its rest behind j bytes that were compared does
+abbrev pub Fitting : Text → Text → ℕ → ℕ → Type 0
+Fitting v t i j = begins v (drop i t) ≡ begins (drop j v) (drop (i + j) t)
 
-  module _ {j : ℕ} (g : Comparing v (part t i (length v)) j) where
-    pub hit_more : j < length v → get_or v j 0 ≡ get_or t (i + j) 0 → Comparing v (part t i (length v)) (j + 1)
-    hit_more h e = comparing_more g h (e ∙ sym (part_byte t i (length v) j h))
+module _ (v t : Text) (i j : ℕ) (room : i + length v ≤ length t) (g : Fitting v t i j) where
+  fits : j < length v → begins v (drop i t) ≡ eqb (get_or v j 0) (get_or t (i + j) 0) && begins (drop (j + 1) v) (drop (i + (j + 1)) t)
+  unfolding begins same
+  fits h = g ∙ rw (drop_step v j h, drop_step t (i + j) (omega arith), add_assoc i j 1)
 
-    pub hit_differs : j < length v → (get_or v j 0 ≡ get_or t (i + j) 0 → ⊥) → false ≡ begins v (drop i t)
-    unfolding begins part
-    hit_differs h n = comparing_differs g h (λ e. n (e ∙ part_byte t i (length v) j h))
+  pub fits_more : j < length v → get_or v j 0 ≡ get_or t (i + j) 0 → Fitting v t i (j + 1)
+  fits_more h e = fits h ∙ rw (eq-eqb _ _ e)
 
-    pub hit_all : length v ≤ j → true ≡ begins v (drop i t)
-    unfolding begins part
-    hit_all h = comparing_all g h
+  pub fits_not : j < length v → (get_or v j 0 ≡ get_or t (i + j) 0 → ⊥) → false ≡ begins v (drop i t)
+  fits_not h n = sym (fits h ∙ rw (ne_eqb _ _ n))
+
+  pub fits_all : length v ≤ j → true ≡ begins v (drop i t)
+  unfolding begins same
+  fits_all h = sym (g ∙ rw (drop_of_length-le v {i = j} h))
 
 -- ---- what stands around a hit
 
@@ -84,7 +77,7 @@ module _ (v t : Text) (i : ℕ) where
 -- ---- the search
 
 -- in fewer bytes than v has, and in none, nothing is found
-find_short : (v : Text) (a : Bool) (t : Text) → length t < 1 + (length v - 1) → find_word v a t ≡ false
+find_short : (v : Text) (a : Bool) (t : Text) → length t < max (length v) 1 → find_word v a t ≡ false
 unfolding find_word
 find_short v a [] h = refl
 find_short v a (x ∷ t) h = rw (hit_short v (x ∷ t) (omega arith), and_false (not a)) (find_short v (is_alphanumeric x) t (omega arith))
@@ -98,28 +91,22 @@ word_short v t h = find_short v false t (omega arith)
 unfoldable pub found_from : Text → Text → ℕ → Bool
 found_from v t i = find_word v (letter_before t i) (drop i t)
 
--- the search has come to index i
-pub record Searching (v t : Text) (i : ℕ) : Type 0 where
-  pub within : i ≤ length t
-  pub is : is_whole_word v t ≡ found_from v t i
-
-pub searching_start : (v t : Text) → Searching v t 0
+pub whole_from_start : (v t : Text) → is_whole_word v t ≡ found_from v t 0
 unfolding is_whole_word found_from letter_before
-searching_start v t = record { within = omega arith; is = refl }
+whole_from_start v t = refl
 
-module _ {v t : Text} {i : ℕ} (g : Searching v t i) where
-  module _ (h : i < length t) where
-    -- at index i there is a hit, or the search goes on
-    next : found_from v t i ≡ is_hit v (letter_before t i) (drop i t) || found_from v t (i + 1)
-    unfolding found_from find_word
-    next = rw (drop_step t i h, before_next t i)
+-- at index i there is a hit, or the search goes on
+found_step : (v t : Text) (i : ℕ) → i < length t → found_from v t i ≡ is_hit v (letter_before t i) (drop i t) || found_from v t (i + 1)
+unfolding found_from find_word
+found_step v t i h = rw (drop_step t i h, before_next t i)
 
-    pub searching_on : false ≡ is_hit v (letter_before t i) (drop i t) → Searching v t (i + 1)
-    searching_on e = record { within = omega arith; is = g.is ∙ next ∙ ap (λ (b : Bool). b || found_from v t (i + 1)) (sym e) }
+pub found_short : (v t : Text) (i : ℕ) → length t < i + max (length v) 1 → found_from v t i ≡ false
+unfolding found_from
+found_short v t i h = find_short v (letter_before t i) (drop i t) (rw (length-drop i t) (omega arith))
 
-    pub searching_hit : true ≡ is_hit v (letter_before t i) (drop i t) → true ≡ is_whole_word v t
-    searching_hit e = sym (g.is ∙ next ∙ ap (λ (b : Bool). b || found_from v t (i + 1)) (sym e))
+module _ (v t : Text) (i : ℕ) (h : i < length t) where
+  pub found_yes : true ≡ is_hit v (letter_before t i) (drop i t) → found_from v t i ≡ true
+  found_yes e = found_step v t i h ∙ rw (← e)
 
-  pub searching_end : {k : ℕ} → k ≡ 1 + (length v - 1) → length t < i + k → false ≡ is_whole_word v t
-  unfolding found_from
-  searching_end n h = sym (g.is ∙ find_short v (letter_before t i) (drop i t) (rw (length-drop i t) (omega arith)))
+  pub found_no : false ≡ is_hit v (letter_before t i) (drop i t) → found_from v t i ≡ found_from v t (i + 1)
+  found_no e = found_step v t i h ∙ rw (← e)

@@ -1,13 +1,7 @@
 -- Laws of the bytes at which a word can start. Assumes nothing.
-use mathlib.Core.Path.{◌≡◌, refl, sym, ap, ◌∙◌}
-use mathlib.Core.Bool.{Bool, true, false, not, ◌&&◌, ◌||◌, or_assoc}
-use mathlib.Core.List.{List, [], ◌∷◌}
-use Prim.Native.Nat.{ℕ, zero, suc, ◌+◌, ◌≤◌, ◌<◌}
-use native.Mathlib.Omega.{arith}
-use borrow.Author.Tests.{eqb-true, eqb-false, eq-eqb}
-use lib.ListN.{length, take, drop, get_or, set, replicate, length-set, drop_of_length-le}
-use lib.Dec.{eqb}
-use lib.Seq.{get_or-take, get_or-set_same, get_or-set_other}
+use Rattle.std.proofs.Common.{◌≡◌, refl, sym, ap, ◌∙◌, Bool, true, false, not, ◌&&◌, ◌||◌, List, [], ◌∷◌, ℕ, zero, suc, ◌+◌, ◌≤◌, ◌<◌, arith, eqb-true, eq-eqb, length, take, drop, get_or, set, replicate, length-set, drop_of_length-le, eqb, get_or-take, get_or-set_same, get_or-set_other}
+use Rattle.std.proofs.Math.Bool.{or_assoc}
+use Rattle.std.proofs.lemmas.Bool.{eqb-false}
 use Rattle.text.specs.declared.bytes.Class.TheVariants.{Alphanumeric}
 use Rattle.text.specs.Text.{Text, is_in, is_alphanumeric, begins}
 use Rattle.text.proofs.Laws.{and_left, and_right, and_id, and_false, or_id, or_true, clash}

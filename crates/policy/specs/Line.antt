@@ -1,19 +1,17 @@
 -- What the enums of a policy's line stand for. Assumes nothing: these are definitions.
-use Rattle.std.specs.Prelude.{◌≡◌, ℕ, ◌≤◌}
+use Rattle.std.specs.Prelude.{◌≡◌, ℕ, ◌≤◌, Option as HeldOption, Some, None, IfSome, Result, Ok, Err, IfOk}
 use Rattle.std.proofs.Math.Option.{Option, none, some}
 use Rattle.text.specs.Text.{Text, between}
 use Rattle.text.specs.Characters.{trim_end}
 use Rattle.er7.specs.Path.{Path, as_path, PathHeld}
-use Rattle.er7.specs.declared.path.ParsedPath.{ParsedPath}
-use Rattle.er7.specs.declared.path.ParsedPath.TheVariants as Paths
+use Rattle.er7.specs.declared.path.Path.{Path as HeldPath}
 use Rattle.er7_redact.specs.Action.{ActionRead, is_action, no_action, as_action, ActionHeld}
 use Rattle.er7_redact.specs.declared.action.Action.{Action as HeldAction}
-use Rattle.er7_redact.specs.declared.action.ParsedAction.{ParsedAction}
-use Rattle.er7_redact.specs.declared.action.ParsedAction.TheVariants as Actions
 use Rattle.er7_redact.specs.Policy.{as_rule, as_posture}
 use Rattle.er7_redact.specs.declared.policy.Rule.{Rule as HeldRule}
 use Rattle.er7_redact.specs.declared.policy.Posture.{Posture as HeldPosture}
 use Rattle.er7_redact.specs.declared.policy.Posture.TheVariants as Postures
+use Rattle.refusal.specs.declared.Refusal.{Refusal}
 use Rattle.policy_model.specs.Policy.{Unrecognised, pass, refuse, apply, LineRead, nothing, rule, posture, unrecognised, sweep, wrong, LineKind, accept_kind, reject_kind, unrecognised_kind, known_values_kind, star_kind, path_kind, rejecting, applying}
 use Rattle.policy.specs.declared.line.Unrecognised.{Unrecognised as HeldUnrecognised}
 use Rattle.policy.specs.declared.line.Unrecognised.TheVariants as Held
@@ -43,15 +41,19 @@ as_line t (LineReads.Rule r) = rule (as_rule t r)
 as_line t (LineReads.Posture p) = posture (as_posture t p)
 as_line t (LineReads.Unrecognised u) = unrecognised (as_unrecognised t u)
 as_line t (LineReads.Sweep b) = sweep b
-as_line t (LineReads.Wrong e) = wrong e
 
-unfoldable pub as_parsed_action : Text → ParsedAction → ActionRead
-as_parsed_action t (Actions.Parsed a) = is_action (as_action t a)
-as_parsed_action t (Actions.Refused e) = no_action e
+-- .. and what was read, or refused
+unfoldable pub as_line_read : Text → Result HeldLine Refusal → LineRead
+as_line_read t (Ok said) = as_line t said
+as_line_read t (Err e) = wrong e
 
-unfoldable pub as_parsed_path : Text → ParsedPath → Option Path
-as_parsed_path t (Paths.Parsed p) = some (as_path t p)
-as_parsed_path t Paths.BadPath = none
+unfoldable pub as_parsed_action : Text → Result HeldAction Refusal → ActionRead
+as_parsed_action t (Ok a) = is_action (as_action t a)
+as_parsed_action t (Err e) = no_action e
+
+unfoldable pub as_parsed_path : Text → HeldOption HeldPath → Option Path
+as_parsed_path t (Some p) = some (as_path t p)
+as_parsed_path t None = none
 
 -- ---- the names and replacements lie in the text t
 
@@ -74,15 +76,6 @@ LineHeld t (LineReads.Rule r) = RuleHeld t r
 LineHeld t (LineReads.Posture p) = PostureHeld t p
 LineHeld t (LineReads.Unrecognised u) = UnrecognisedHeld t u
 LineHeld t (LineReads.Sweep b) = Unit {0}
-LineHeld t (LineReads.Wrong e) = Unit {0}
-
-abbrev pub ParsedActionHeld : Text → ParsedAction → Type 0
-ParsedActionHeld t (Actions.Parsed a) = ActionHeld t a
-ParsedActionHeld t (Actions.Refused e) = Unit {0}
-
-abbrev pub ParsedPathHeld : Text → ParsedPath → Type 0
-ParsedPathHeld t (Paths.Parsed p) = PathHeld t p
-ParsedPathHeld t Paths.BadPath = Unit {0}
 
 -- ---- what a function that reads a line answers
 
@@ -96,17 +89,17 @@ pub record Applying (a : HeldAction) (r : HeldUnrecognised) : Type 0 where
   pub held : (t : Text) → ActionHeld t a → UnrecognisedHeld t r
 
 -- r is the action, the path, or the line, that was read from the text t
-pub record ActionAt (t : Text) (a : ActionRead) (r : ParsedAction) : Type 0 where
+pub record ActionAt (t : Text) (a : ActionRead) (r : Result HeldAction Refusal) : Type 0 where
   pub is : as_parsed_action t r ≡ a
-  pub held : ParsedActionHeld t r
+  pub held : IfOk r (ActionHeld t)
 
-pub record PathAt (t : Text) (p : Option Path) (r : ParsedPath) : Type 0 where
+pub record PathAt (t : Text) (p : Option Path) (r : HeldOption HeldPath) : Type 0 where
   pub is : as_parsed_path t r ≡ p
-  pub held : ParsedPathHeld t r
+  pub held : IfSome r (PathHeld t)
 
-pub record LineAt (t : Text) (said : LineRead) (r : HeldLine) : Type 0 where
-  pub is : as_line t r ≡ said
-  pub held : LineHeld t r
+pub record LineAt (t : Text) (said : LineRead) (r : Result HeldLine Refusal) : Type 0 where
+  pub is : as_line_read t r ≡ said
+  pub held : IfOk r (LineHeld t)
 
 -- r is where the text from index i to index e ends without the blanks at its end
 pub record TrimmedEnd (t : Text) (i e r : ℕ) : Type 0 where

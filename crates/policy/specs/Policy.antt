@@ -1,14 +1,12 @@
 -- What the struct of a policy stands for. Assumes nothing: these are definitions.
-use Rattle.std.specs.Prelude.{◌≡◌, List, map, ℕ, ◌≤◌, ◌<◌, length, take, get_or}
+use Rattle.std.specs.Prelude.{◌≡◌, List, map, ℕ, ◌≤◌, ◌<◌, length, take, get_or, Result, Ok, Err, IfOk}
 use Rattle.text.specs.Text.{Text}
 use Rattle.er7_redact.specs.Policy.{Rule, as_rule, as_posture}
 use Rattle.er7_redact.specs.declared.policy.Rule.{Rule as HeldRule}
 use Rattle.policy_model.specs.Policy.{Policy, PolicyRead, read, refused, read_policy}
 use Rattle.policy.specs.declared.policy.Policy.{Policy as HeldPolicy}
-use Rattle.policy.specs.declared.policy.ParsedPolicy.{ParsedPolicy}
-use Rattle.policy.specs.declared.policy.Verdict.{Verdict}
-use Rattle.policy.specs.declared.policy.Verdict.TheVariants.{Read, Refused}
 use Rattle.policy.specs.Line.{as_unrecognised, RuleHeld, PostureHeld, UnrecognisedHeld}
+use Rattle.refusal.specs.declared.Refused.{Refused}
 use Rattle.refusal.specs.Limits.{RULES_MAX}
 
 -- the first n rules of an array, and the policy, in the policy's text t
@@ -24,12 +22,9 @@ as_policy t p =
       sweep = p.sweep;
     }
 
-unfoldable pub as_verdict : Policy → Verdict → PolicyRead
-as_verdict p Read = read p
-as_verdict p (Refused e n) = refused e n
-
-unfoldable pub as_read : Text → ParsedPolicy → PolicyRead
-as_read t r = as_verdict (as_policy t r.policy) r.verdict
+unfoldable pub as_read : Text → Result HeldPolicy Refused → PolicyRead
+as_read t (Ok p) = read (as_policy t p)
+as_read t (Err e) = refused e.refusal e.line
 
 -- the names and replacements of the first n rules lie in t
 pub record RulesHeld (t : Text) (rs : List HeldRule) (n : ℕ) : Type 0 where
@@ -44,6 +39,6 @@ pub record PolicyHeld (t : Text) (p : HeldPolicy) : Type 0 where
   pub unrecognised : UnrecognisedHeld t p.unrecognised
 
 -- r is what the text t reads as
-pub record PolicyIs (t : Text) (r : ParsedPolicy) : Type 0 where
+pub record PolicyIs (t : Text) (r : Result HeldPolicy Refused) : Type 0 where
   pub is : as_read t r ≡ read_policy t
-  pub held : PolicyHeld t r.policy
+  pub held : IfOk r (PolicyHeld t)

@@ -1,12 +1,5 @@
 -- Laws of a whole policy printed. Assumes nothing.
-use mathlib.Core.Path.{◌≡◌, refl, sym, ap, ◌∙◌}
-use mathlib.Core.Bool.{Bool, ◌||◌}
-use mathlib.Core.List.{List, [], ◌∷◌, ◌++◌, append_assoc}
-use Prim.Native.Nat.{ℕ, suc, ◌+◌, ◌≤◌, ◌<◌, max}
-use native.Mathlib.Nat.{zero-add}
-use native.Mathlib.Omega.{arith}
-use borrow.Author.Tests.{lt-ltb, le-ltb, ne_eqb}
-use lib.ListN.{length, length-append}
+use Rattle.std.proofs.Common.{◌≡◌, refl, sym, ap, ◌∙◌, Bool, ◌||◌, List, [], ◌∷◌, ◌++◌, append_assoc, ℕ, suc, ◌+◌, ◌≤◌, ◌<◌, max, zero-add, arith, lt-ltb, le-ltb, ne_eqb, length, length-append, Result, Ok, Err, IsErrAnd}
 use Rattle.text.specs.Text.{Text, Wrote}
 use Rattle.text.proofs.Writes.{wrote_then}
 use Rattle.er7_redact.specs.declared.action.Action.{Action as HeldAction}
@@ -14,19 +7,18 @@ use Rattle.er7_redact.specs.declared.policy.Posture.{Posture as HeldPosture}
 use Rattle.er7_redact.specs.declared.policy.Posture.TheVariants as Postures
 use Rattle.er7_redact.specs.Policy.{Rule, Posture, as_posture}
 use Rattle.refusal.specs.declared.Refusal.{Refusal}
+use Rattle.refusal.specs.declared.Refused.{Refused}
+use Rattle.refusal.specs.Refusal.{without_line}
 use Rattle.refusal.specs.declared.Refusal.TheVariants.{TooMany, NoSuchBuiltin}
 use Rattle.refusal.specs.Limits.{INPUT_MAX, RULES_MAX}
+use Rattle.std.proofs.lemmas.Result.{err_from_is_err_and}
 use Rattle.policy_model.specs.Policy.{Policy, PolicyRead, read, refused, read_policy, Unrecognised, width, posture_line, rule_block, default_lines, joined, stricter, merged, print_policy, rule_lines}
 use Rattle.policy_model.specs.Builtin.{builtin_text}
 use Rattle.policy_model.proofs.PolicyReadBack.{merged_fits}
 use Rattle.policy.specs.declared.policy.Policy.{Policy as HeldPolicy}
-use Rattle.policy.specs.declared.policy.ParsedPolicy.{ParsedPolicy}
-use Rattle.policy.specs.declared.policy.Verdict.TheVariants as Verdicts
 use Rattle.policy.specs.Line.{as_unrecognised}
-use Rattle.policy.specs.Policy.{as_rules, as_policy, as_verdict, as_read, PolicyHeld, PolicyIs}
+use Rattle.policy.specs.Policy.{as_rules, as_policy, as_read, PolicyHeld, PolicyIs}
 use Rattle.policy.proofs.Reading.{rules_length}
-use Rattle.policy_print.specs.declared.print.Printed.{Printed}
-use Rattle.policy_print.specs.declared.print.Printed.TheVariants.{Written, Refused}
 use Rattle.policy_print.specs.Display.{with_lf, rules_text, blank_line, unrecognised_line, sweep_line, defaults_text}
 use Rattle.policy_print.specs.Print.{merged_read, appended, builtin_read, printed_of, buffer_of, PrintedIs}
 use Rattle.policy_print.proofs.Parts.{joined_append, rules_append, width_append}
@@ -145,31 +137,35 @@ module _ (s t : Text) (p q : HeldPolicy) (g : PolicyHeld s p) (h : PolicyHeld t 
 
 -- ---- texts that are read and printed
 
-pub refused_is : {o : PolicyRead} (e : Refusal) (n : ℕ) (d : Text) → o ≡ refused e n → PrintedIs o d d (Refused e n)
+-- what `?` hands on
+pub refused_is : {o : PolicyRead} (e : Refused) (d : Text) {r : Result ℕ Refused} → o ≡ refused e.refusal e.line → IsErrAnd r (λ y. y ≡ e) → PrintedIs o d d r
 unfolding printed_of buffer_of
-refused_is e n d q = record { result = rw q; buffer = rw q }
+refused_is e d {r} q h = let k = err_from_is_err_and r h in rw (k.1, k.2) (record { result = rw q; buffer = rw q })
 
-pub printed_is : {o : PolicyRead} {d d' : Text} {r : ℕ} (p : Policy) → o ≡ read p → Wrote d 0 (print_policy p) d' r → PrintedIs o d d' (Written r)
+pub without_line_is : {o : PolicyRead} (e : Refusal) (d : Text) → o ≡ refused e 0 → PrintedIs o d d (Err (without_line e))
+unfolding printed_of buffer_of without_line
+without_line_is e d q = record { result = rw q; buffer = rw q }
+
+pub printed_is : {o : PolicyRead} {d d' : Text} {r : ℕ} (p : Policy) → o ≡ read p → Wrote d 0 (print_policy p) d' r → PrintedIs o d d' (Ok r)
 unfolding printed_of buffer_of
-printed_is p q w = record { result = rw q (ap Written (w.end ∙ zero-add _)); buffer = rw q w.text }
+printed_is p q w = record { result = rw q (ap Ok (w.end ∙ zero-add _)); buffer = rw q w.text }
 
--- a verdict, and what the text reads as
-module _ (t : Text) (r : ParsedPolicy) (g : PolicyIs t r) where
-  pub read_as : r.verdict ≡ Verdicts.Read → read_policy t ≡ read (as_policy t r.policy)
-  unfolding as_read as_verdict
-  read_as e = sym g.is ∙ rw e
+-- what a text reads as
+pub read_as : {t : Text} {p : HeldPolicy} → PolicyIs t (Ok p) → read_policy t ≡ read (as_policy t p)
+unfolding as_read
+read_as g = sym g.is
 
-  pub refused_as : {e : Refusal} {n : ℕ} → r.verdict ≡ Verdicts.Refused e n → read_policy t ≡ refused e n
-  unfolding as_read as_verdict
-  refused_as e = sym g.is ∙ rw e
+pub refused_as : {t : Text} {e : Refused} → PolicyIs t (Err e) → read_policy t ≡ refused e.refusal e.line
+unfolding as_read
+refused_as g = sym g.is
 
-pub appended_first : (e : Refusal) (n : ℕ) {o₁ : PolicyRead} (o₂ : PolicyRead) → o₁ ≡ refused e n → appended o₁ o₂ ≡ refused e n
+pub appended_first : (e : Refused) {o₁ : PolicyRead} (o₂ : PolicyRead) → o₁ ≡ refused e.refusal e.line → appended o₁ o₂ ≡ refused e.refusal e.line
 unfolding appended
-appended_first e n o q = rw q
+appended_first e o q = rw q
 
-pub appended_second : (p : Policy) (e : Refusal) (n : ℕ) {o₁ o₂ : PolicyRead} → o₁ ≡ read p → o₂ ≡ refused e n → appended o₁ o₂ ≡ refused e n
+pub appended_second : (p : Policy) (e : Refused) {o₁ o₂ : PolicyRead} → o₁ ≡ read p → o₂ ≡ refused e.refusal e.line → appended o₁ o₂ ≡ refused e.refusal e.line
 unfolding appended
-appended_second p e n q w = rw (q, w)
+appended_second p e q w = rw (q, w)
 
 pub appended_both : (p q : Policy) {o₁ o₂ : PolicyRead} → o₁ ≡ read p → o₂ ≡ read q → appended o₁ o₂ ≡ merged_read p q
 unfolding appended
@@ -202,6 +198,6 @@ pub no_builtin : (n : ℕ) → 3 < n → builtin_read n ≡ refused NoSuchBuilti
 unfolding builtin_read
 no_builtin n h = rw (lt-ltb 3 n h)
 
-pub builtin_is : (n m : ℕ) {d d' : Text} {r : Printed} → n ≡ m → m ≤ 3 → PrintedIs (read_policy (builtin_text m)) d d' r → PrintedIs (builtin_read n) d d' r
+pub builtin_is : (n m : ℕ) {d d' : Text} {r : Result ℕ Refused} → n ≡ m → m ≤ 3 → PrintedIs (read_policy (builtin_text m)) d d' r → PrintedIs (builtin_read n) d d' r
 unfolding builtin_read
 builtin_is n m e h g = rw (e, le-ltb 3 m h) g

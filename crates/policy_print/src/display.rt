@@ -1,5 +1,5 @@
 // A policy's text, as `Display` prints it.
-ghost use Rattle.std.specs.Prelude.{◌≡◌, ◌+◌, ◌≤◌, max, length};
+ghost use Rattle.std.specs.Prelude.{◌≡◌, ◌+◌, ◌≤◌, length};
 ghost use Rattle.text.specs.Text.{Wrote};
 ghost use Rattle.er7.specs.Path.{print_path};
 ghost use Rattle.er7_redact.specs.Policy.{as_rule, as_posture};
@@ -15,29 +15,15 @@ use policy::line::Unrecognised;
 use policy::policy::Policy;
 use text::bytes::{byte_at, copy_at, fill_at};
 
-// The greater of two numbers.
-pub fn greater(a: usize, b: usize) -> usize
-    ensures { result ≡ max a b }
-{
-    if a < b {
-        return b;
-    }
-    a
-}
-
 // The length of the longest printed path.
-pub fn width(policy: Policy, text: &[u8]) -> usize
-    requires { PolicyHeld text.now policy }
-    ensures { result ≡ M.width (as_rules text.now policy.rules policy.count) }
+pub fn width(policy: &Policy, text: &[u8]) -> usize
+    requires { PolicyHeld text.now policy.now }
+    ensures { result ≡ M.width (as_rules text.now policy.now.rules policy.now.count) }
 {
     let mut w = 0;
-    let mut i = 0;
-    while i < policy.count {
-        let rule = policy.rules[i];
-        let p = rule.path;
-        let len = path::printed_len(p, text);
-        w = greater(w, len);
-        i += 1;
+    for rule in &policy.rules[..policy.count] {
+        let len = path::printed_len(rule.path, text);
+        w = w.max(len);
     }
     w
 }
@@ -47,26 +33,21 @@ fn put_rule(rule: Rule, text: &[u8], n: usize, out: &mut [u8], at: usize) -> usi
     requires { RuleHeld text.now rule × (length (print_path (as_rule text.now rule).path) ≤ n) × (at + length (rule_text n (as_rule text.now rule)) ≤ length out.old) }
     ensures { Wrote out.old at (rule_text n (as_rule text.now rule)) out.new result }
 {
-    let p = rule.path;
-    let a = rule.action;
-    let w = path::print(p, text, out, at);
+    let w = path::print(rule.path, text, out, at);
     let gap = n - (w - at) + 2;
     let k = fill_at(out, w, gap, b' ');
-    let e = action::print(a, text, out, k);
+    let e = action::print(rule.action, text, out, k);
     byte_at(out, e, b'\n')
 }
 
 // Writes the rules' lines, with paths in a column of n bytes.
-pub fn put_rules(policy: Policy, text: &[u8], n: usize, out: &mut [u8], at: usize) -> usize
-    requires { PolicyHeld text.now policy × (M.width (as_rules text.now policy.rules policy.count) ≤ n) × (at + length (rules_text n (as_rules text.now policy.rules policy.count)) ≤ length out.old) }
-    ensures { Wrote out.old at (rules_text n (as_rules text.now policy.rules policy.count)) out.new result }
+pub fn put_rules(policy: &Policy, text: &[u8], n: usize, out: &mut [u8], at: usize) -> usize
+    requires { PolicyHeld text.now policy.now × (M.width (as_rules text.now policy.now.rules policy.now.count) ≤ n) × (at + length (rules_text n (as_rules text.now policy.now.rules policy.now.count)) ≤ length out.old) }
+    ensures { Wrote out.old at (rules_text n (as_rules text.now policy.now.rules policy.now.count)) out.new result }
 {
     let mut k = at;
-    let mut i = 0;
-    while i < policy.count {
-        let rule = policy.rules[i];
-        k = put_rule(rule, text, n, out, k);
-        i += 1;
+    for rule in &policy.rules[..policy.count] {
+        k = put_rule(*rule, text, n, out, k);
     }
     k
 }

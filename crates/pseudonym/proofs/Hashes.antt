@@ -1,10 +1,10 @@
 -- Laws of FNV-1a. Assumes nothing.
-use Rattle.std.proofs.Common.{◌≡◌, ℕ, ◌+◌, ◌<◌, ◌≤◌, [], ◌∷◌, ◌++◌, length, get_or, drop, sym, refl, ◌∙◌, arith, drop_of_length-le}
-use Rattle.text.specs.Text.{Text, Wrote}
-use Rattle.text.specs.Number.{eight_bytes}
-use Rattle.text.proofs.Runs.{drop_step}
-use Rattle.text.proofs.Spelling.{eight_bytes_length}
-use Rattle.text.proofs.Writes.{put_whole}
+use Rattle.std.proofs.Common.{◌≡◌, ℕ, [], ◌∷◌, ◌++◌, refl, w64, sym, ◌∙◌}
+use Rattle.std.proofs.Math.Nat.{div-div-eq-div-mul}
+use Rattle.std.specs.Int.{to_be_bytes}
+use Rattle.std.specs.List as Lists
+use Rattle.text.specs.Text.{Text}
+use Rattle.text.specs.Number.{eight_bytes, positional}
 use Rattle.pseudonym.specs.Pseudonym.{OFFSET, step, fold}
 
 -- the bytes of one text, and then those of another
@@ -13,25 +13,17 @@ unfolding fold
 fold_append h [] t = refl
 fold_append h (b ∷ s) t = fold_append (step h b) s t
 
--- a fold that has come to index i with the hash g
-pub record Folding (h : ℕ) (s : Text) (i g : ℕ) : Type 0 where
-  pub high : i ≤ length s
-  pub is : fold h s ≡ fold g (drop i s)
+-- the same as a fold of the list
+pub fold_lem : (h : ℕ) (s : Text) → Lists.fold step h s ≡ fold h s
+unfolding fold
+fold_lem h [] = refl
+fold_lem h (b ∷ s) = fold_lem (step h b) s
 
-pub folding_start : (h : ℕ) (s : Text) → Folding h s 0 h
-folding_start h s = record { high = omega arith; is = refl }
+-- a number's bytes by their places
+eight_bytes_lem : (n : ℕ) → to_be_bytes w64 n ≡ eight_bytes n
+unfolding eight_bytes positional
+eight_bytes_lem n = simp div-div-eq-div-mul
 
-module _ {h : ℕ} {s : Text} {i g : ℕ} (f : Folding h s i g) where
-  pub folding_more : {v : ℕ} → i < length s → v ≡ step g (get_or s i 0) → Folding h s (i + 1) v
-  unfolding fold
-  folding_more l e = record { high = omega arith; is = f.is ∙ rw (drop_step s i l, e) }
-
-  pub folding_end : length s ≤ i → g ≡ fold h s
-  unfolding fold
-  folding_end l = rw (f.is, drop_of_length-le s l)
-
--- the key's bytes stand in a buffer of eight, and the value's follow
-pub key_then_value : (key : ℕ) (value d b : Text) (g h r : ℕ) → length d ≡ 8 → Wrote d 0 (eight_bytes key) b r → g ≡ fold OFFSET b → h ≡ fold g value
-    → h ≡ fold OFFSET (eight_bytes key ++ value)
-key_then_value key value d b g h r l w e f =
-    f ∙ rw (e, w.text, put_whole d (eight_bytes key) (eight_bytes_length key ∙ sym l)) (sym (fold_append OFFSET (eight_bytes key) value))
+-- the key's bytes, and the value's behind them
+pub key_then_value : (key : ℕ) (value b : Text) (g h : ℕ) → b ≡ to_be_bytes w64 key → g ≡ fold OFFSET b → h ≡ fold g value → h ≡ fold OFFSET (eight_bytes key ++ value)
+key_then_value key value b g h w e f = f ∙ rw (e, w, eight_bytes_lem key) (sym (fold_append OFFSET (eight_bytes key) value))

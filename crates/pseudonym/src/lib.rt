@@ -5,15 +5,15 @@ ghost use Rattle.std.specs.Prelude.{◌≡◌, ◌+◌, ◌*◌, ◌%◌, ◌^�
 ghost use Rattle.text.specs.Text.{Wrote};
 ghost use Rattle.pseudonym.specs.Pseudonym as P;
 
-use std::num::wrapping_add_u64;
-use text::positional::{eight_bytes_at, hexadecimal_at};
+use text::positional::hexadecimal_at;
 
 // The hash of no bytes, and the number that every step multiplies by.
 pub const OFFSET: u64 = 0xcbf2_9ce4_8422_2325;
 
 pub const PRIME: u64 = 0x0000_0100_0000_01b3;
 
-// The low 64 bits of the product: the low halves' product, and the middle products' sum, shifted by half a word.
+// The low 64 bits of the product: the low halves' product, and the middle products' sum, shifted by half a word. The form is the project's:
+// a helper built from parts.
 pub fn wrapping_mul(a: u64, b: u64) -> u64
     ensures { result ≡ (a * b) % 2 ^ 64 }
 {
@@ -21,28 +21,23 @@ pub fn wrapping_mul(a: u64, b: u64) -> u64
     let a_high = a / 0x1_0000_0000;
     let b_low = b % 0x1_0000_0000;
     let b_high = b / 0x1_0000_0000;
-    let middle = wrapping_add_u64(a_high * b_low, a_low * b_high) % 0x1_0000_0000;
-    wrapping_add_u64(a_low * b_low, middle * 0x1_0000_0000)
+    let middle = (a_high * b_low).wrapping_add(a_low * b_high) % 0x1_0000_0000;
+    (a_low * b_low).wrapping_add(middle * 0x1_0000_0000)
 }
 
 // One byte more.
+#[tactic(auto, unfolding(crate::specs::Pseudonym::step))]
 pub fn step(hash: u64, byte: u8) -> u64
     ensures { result ≡ P.step hash byte }
 {
-    wrapping_mul(hash ^ (byte as u64), PRIME)
+    wrapping_mul(hash ^ u64::from(byte), PRIME)
 }
 
 // The bytes of s, one after the other.
 pub fn fold(hash: u64, s: &[u8]) -> u64
     ensures { result ≡ P.fold hash s.now }
 {
-    let mut h = hash;
-    let mut i = 0;
-    while i < s.len() {
-        h = step(h, s[i]);
-        i += 1;
-    }
-    h
+    s.iter().fold(hash, |h, b| step(h, *b))
 }
 
 // Writes the pseudonym of value under key to out from index at on, and returns the index behind it.
@@ -50,9 +45,7 @@ pub fn pseudonym(key: u64, value: &[u8], out: &mut [u8], at: usize) -> usize
     requires { at + 16 ≤ length out.old }
     ensures { Wrote out.old at (P.pseudonym key value.now) out.new result }
 {
-    let mut bytes = [0u8; 8];
-    eight_bytes_at(&mut bytes, 0, key);
-    let keyed = fold(OFFSET, &bytes);
+    let keyed = fold(OFFSET, &key.to_be_bytes());
     let hash = fold(keyed, value);
     hexadecimal_at(out, at, hash)
 }

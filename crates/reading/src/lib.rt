@@ -10,11 +10,11 @@ pub fn read_full<F: Read>(file: &mut F, buf: &mut [u8]) -> usize
     ensures { result ≤ length buf.new }
 {
     let mut done = 0;
+    // a read gives as many bytes as it likes, so that a `for` does not fit
     while done < buf.len() {
         match file.read(&mut buf[done..]) {
-            Ok(0) => return done,
+            Ok(0) | Err(_) => break,
             Ok(n) => done += n,
-            Err(_) => return done,
         }
     }
     done

@@ -12,22 +12,10 @@ ghost use Rattle.refusal.specs.Limits.{INPUT_MAX, TEXT_MAX};
 
 use entries::returned::{ReturnedReport, finish_report, is_short, refuse_report};
 use er7_message::message;
-use er7_message::message::ParsedMessage;
-use policy::policy::{Policy, Verdict, parse};
+use policy::policy::{Policy, parse};
 use redact_1_run::from_tables::{Redacted, redact_from};
-use refusal::Refusal;
 use refusal::limits::LEAVES_MAX;
-
-// The lengths of the text and of the report, and how many rows it has; or a refusal with its line.
-#[derive(Clone, Copy)]
-pub enum Answer {
-    Redacted {
-        text_len: usize,
-        report_len: usize,
-        rows: usize,
-    },
-    Refused(Refusal, usize),
-}
+use refusal::{Refusal, Refused};
 
 // The message as a policy leaves it, whose text is text, at the front of output, and its rows at that of report; segs and cells are for its tables.
 fn redact_in(
@@ -39,41 +27,27 @@ fn redact_in(
     cells: &mut [usize],
     output: &mut [u8],
     report: &mut [u8],
-) -> Answer
+) -> Result<Redacted, Refused>
     requires { PolicyHeld text.now policy × (length text.now ≤ INPUT_MAX) × LeafRoom cells.old (length message.now) × (TEXT_MAX ≤ length output.old) }
     ensures { AnsweredAs (without_fault (message_fault message.now) (reported (length report.old) (Redact.redact key (as_policy text.now policy) (message_of message.now)))) output.new report.new result }
 {
-    match message::parse(message, segs, cells) {
-        ParsedMessage::Read(layout) => match redact_from(
-            policy,
-            text,
-            key,
-            message,
-            layout,
-            message.len(),
-            segs,
-            cells,
-            output,
-            report,
-        ) {
-            Redacted::Redacted {
-                text_len,
-                report_len,
-                rows,
-            } => {
-                if report.len() < report_len {
-                    return Answer::Refused(Refusal::ReportTooLong, 0);
-                }
-                Answer::Redacted {
-                    text_len,
-                    report_len,
-                    rows,
-                }
-            }
-            Redacted::Refused(refusal) => Answer::Refused(refusal, 0),
-        },
-        ParsedMessage::Refused(refusal) => Answer::Refused(refusal, 0),
+    let layout = message::parse(message, segs, cells)?;
+    let redacted = redact_from(
+        policy,
+        text,
+        key,
+        message,
+        layout,
+        message.len(),
+        segs,
+        cells,
+        output,
+        report,
+    )?;
+    if report.len() < redacted.report_len {
+        return Err(Refusal::ReportTooLong.into());
     }
+    Ok(redacted)
 }
 
 // The same, with tables for as many leaves as a short message can have, or for 4096.
@@ -84,7 +58,7 @@ fn redact_message(
     key: u64,
     output: &mut [u8],
     report: &mut [u8],
-) -> Answer
+) -> Result<Redacted, Refused>
     requires { PolicyHeld text.now policy × (length text.now ≤ INPUT_MAX) × (TEXT_MAX ≤ length output.old) }
     ensures { AnsweredAs (without_fault (message_fault message.now) (reported (length report.old) (Redact.redact key (as_policy text.now policy) (message_of message.now)))) output.new report.new result }
 {
@@ -108,17 +82,12 @@ fn redact_by(
     key: u64,
     output: &mut [u8],
     report: &mut [u8],
-) -> Answer
+) -> Result<Redacted, Refused>
     requires { TEXT_MAX ≤ length output.old }
     ensures { AnsweredAs (with_policy (read_policy policy.now) λ P. without_fault (message_fault message.now) (reported (length report.old) (Redact.redact key P (message_of message.now)))) output.new report.new result }
 {
-    let parsed = parse(policy);
-    let held = parsed.policy;
-    let verdict = parsed.verdict;
-    match verdict {
-        Verdict::Read => redact_message(message, held, policy, key, output, report),
-        Verdict::Refused(refusal, line) => Answer::Refused(refusal, line),
-    }
+    let held = parse(policy)?;
+    redact_message(message, held, policy, key, output, report)
 }
 
 // The message as the policy leaves it, in output, and a row for each change, in report; or a refusal. The scratch is zeroed.
@@ -133,14 +102,17 @@ pub fn redact(
     ensures { as_redact_outcome result output.new report.new scratch.new ≡ redact_outcome (lent_report (length output.old) (length report.old) (length scratch.old)) message.now policy.now key }
 {
     if is_short(output.len(), scratch.len()) {
-        return refuse_report(Refusal::ShortBuffer, 0, output, report, scratch);
+        return refuse_report(Refusal::ShortBuffer.into(), output, report, scratch);
     }
     match redact_by(message, policy, key, output, report) {
-        Answer::Redacted {
-            text_len,
-            report_len,
-            rows,
-        } => finish_report(text_len, report_len, rows, output, report, scratch),
-        Answer::Refused(refusal, line) => refuse_report(refusal, line, output, report, scratch),
+        Ok(redacted) => finish_report(
+            redacted.text_len,
+            redacted.report_len,
+            redacted.rows,
+            output,
+            report,
+            scratch,
+        ),
+        Err(fault) => refuse_report(fault, output, report, scratch),
     }
 }

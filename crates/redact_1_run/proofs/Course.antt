@@ -1,48 +1,39 @@
 -- Laws of the turns of a run, one behind the other. Assumes nothing.
-use mathlib.Core.Path.{◌≡◌, refl, sym, subst, ◌∙◌}
-use mathlib.Core.Bool.{Bool, true, false, cond}
-use mathlib.Core.List.{List, [], ◌∷◌, ◌++◌}
-use mathlib.Core.Option.{Option, none}
-use Prim.Native.Nat.{ℕ, ◌+◌, ◌≤◌, ◌<◌}
-use native.Mathlib.Omega.{arith}
-use borrow.Author.Tests.{eqb-true}
-use lib.Dec.{eqb}
-use lib.ListN.{get_or}
+use Rattle.std.proofs.Common.{◌≡◌, refl, sym, ◌∙◌, Bool, true, false, cond, List, [], ◌∷◌, ◌++◌, ℕ, ◌+◌, ◌≤◌, ◌<◌, eqb, eqb-true, length, take, get_or, get_or-take, length-take, arith, Result, Ok, Err}
+use Rattle.std.proofs.Math.Option.{Option, none}
 use Rattle.text.specs.Text.{Text}
-use Rattle.text.proofs.Laws.{split}
 use Rattle.refusal.specs.declared.Refusal.{Refusal}
-use Rattle.refusal.specs.Limits.{LEAVES_MAX}
 use Rattle.er7.specs.declared.separators.Separators.{Separators}
-use Rattle.er7_redact.specs.Action.{Action}
+use Rattle.er7.specs.Path.{PathHeld}
+use Rattle.er7_redact.specs.Action.{Action, ActionHeld}
+use Rattle.er7_redact.specs.Policy.{as_rule}
 use Rattle.er7_redact.specs.declared.policy.Rule.{Rule as HeldRule}
 use Rattle.message_model.specs.Message.{Leaf, leaf, Label, Segment, segment}
 use Rattle.message_model.specs.Value.{is_empty_or_null}
 use Rattle.policy_model.specs.Policy.{Policy}
-use Rattle.policy.specs.Policy.{as_policy, PolicyHeld}
+use Rattle.policy.specs.Policy.{as_rules, as_policy, PolicyHeld}
+use Rattle.policy.specs.Line.{PostureHeld}
 use Rattle.policy.specs.declared.policy.Policy.{Policy as HeldPolicy}
-use Rattle.run_model.specs.Redact.{Progress, stopped, known_in, after_events, over_segments, segments_events, longest_found, action_in, for_sweep}
+use Rattle.run_model.specs.Redact.{Progress, stopped, after_events, over_segments, segments_events, longest_found, action_in, for_sweep}
 use Rattle.run_model.proofs.Chains.{cond_both}
 use Rattle.redact_5_act.specs.Known.{known_from}
 use Rattle.redact_5_act.specs.declared.state.Setting.{Setting}
 use Rattle.redact_5_act.specs.declared.state.Counters.{Counters}
-use Rattle.redact_5_act.specs.declared.state.Done.{Done}
-use Rattle.redact_5_act.specs.declared.state.Done.TheVariants.{Going, Stopped}
+use Rattle.refusal.specs.declared.Refusal.{Refusal}
 use Rattle.redact_4_leaf.specs.Walk.{Pass}
 use Rattle.redact_4_leaf.specs.State.{Buffers, knowing, known_now}
 use Rattle.redact_4_leaf.specs.Visit.{unnamed_pass}
 use Rattle.redact_4_leaf.proofs.Walks.{stopped_stays}
-use Rattle.redact_2_turn.specs.Turn.{pass_of, pass_by, aim_of, TurnHeld, JobHeld}
+use Rattle.redact_2_turn.specs.Turn.{pass_of, TurnHeld}
+use Rattle.redact_2_turn.specs.Taken.{TurnTaken}
 use Rattle.redact_2_turn.specs.declared.turn.Turn.{Turn}
 use Rattle.redact_2_turn.specs.declared.turn.Turn.TheVariants.{Sweep, Idle}
-use Rattle.redact_2_turn.specs.declared.turn.Aim.{Aim}
-use Rattle.redact_2_turn.specs.declared.turn.Job.{Job}
 use Rattle.redact_2_turn.proofs.Still.{Still, unpicked}
 use Rattle.redact_2_turn.proofs.Turns.{leaves_same, leaves_silent}
-use Rattle.redact_1_run.specs.Turns.{Task, tasks_of, pass_for, segments_by, progress_by, after_tasks, progress_tasks, TurnIs, turn_of_sweep, rule_row}
-use Rattle.redact_1_run.specs.Stage.{Stands, TurnReadyOr, Begun, Inputs, NextIs}
-use Rattle.redact_1_run.proofs.Stages.{Sound, turn_sound, progress_knows, stands_next, stands_turn_ready, stands_later}
-use Rattle.redact_1_run.proofs.Tasks.{task_after, task_progress, FirstTasks, task_at, task_rule, task_posture, task_sweep, first_none, first_more}
-use Rattle.redact_1_run.proofs.Steps.{row_low}
+use Rattle.redact_1_run.specs.Turns.{Task, tasks_of, ruled, judged, swept, pass_for, segments_by, progress_by, after_tasks, progress_tasks, RuleTurn, PostureTurn, turn_of_sweep}
+use Rattle.redact_1_run.specs.Stage.{Stage, Stands, TurnReady, Begun, Inputs}
+use Rattle.redact_1_run.proofs.Stages.{turn_sound, progress_knows, stands_next, stage_turn_ready, stands_later}
+use Rattle.redact_1_run.proofs.Tasks.{tasks_progress, next_pass, task_after, task_progress, rules_to, rules_more, left, rules_left, posture_left}
 
 -- ---- passes that do the same
 
@@ -87,7 +78,7 @@ none_known text bytes known c e = rw e
 -- ---- the turn of a task
 
 module _ (key : ℕ) (s : Separators) (text : Text) (β : Buffers) (c : Counters) (ss : List Segment) where
-  sweep_alike : {turn : Turn} → turn ≡ turn_of_sweep (Going c) → Alike (pass_of key s text (knowing text β c) turn) (unnamed_pass key s (for_sweep s (knowing text β c))) ss
+  sweep_alike : {turn : Turn} → turn ≡ turn_of_sweep c.known → Alike (pass_of key s text (knowing text β c) turn) (unnamed_pass key s (for_sweep s (knowing text β c))) ss
   unfolding turn_of_sweep
   sweep_alike {turn} e = go (eqb c.known 0) refl e
     where
@@ -95,102 +86,142 @@ module _ (key : ℕ) (s : Separators) (text : Text) (β : Buffers) (c : Counters
       go true q f = rw (f, none_known text β.bytes β.known c (eqb-true _ _ q)) (unfold pass_of in idle_alike key s ss)
       go false q f = alike_eq (rw f (unfold pass_of in refl))
 
-module _ (text : Text) (policy : HeldPolicy) (key : ℕ) (s : Separators) (β : Buffers) (c : Counters) (ss : List Segment) where
-  turn_alike : {k : ℕ} (rule : HeldRule) {turn : Turn} → TurnIs k policy.count rule policy.posture (Going c) turn
-      → Alike (pass_of key s text (knowing text β c) turn) (pass_for key s (as_policy text policy) (task_at text policy k rule) (knowing text β c)) ss
-  turn_alike {k} rule t =
-      split k policy.count
-      (λ h. rw (task_rule text policy rule h) (alike_eq ((t.by_rule h).pass key s text (knowing text β c) ∙ unfold pass_for in refl)))
-      (λ h. split policy.count k
-      (λ l. rw (task_sweep text policy rule l) (unfold pass_for in sweep_alike key s text β c ss (t.by_sweep l)))
-      (λ l. let e : k ≡ policy.count = omega arith in rw (task_posture text policy rule e) (alike_eq ((t.by_posture e).pass key s text (knowing text β c) ∙ unfold pass_for as_policy in refl))))
-
--- it names what lies in the policy's text
-sweep_held : (text : Text) (d : Done) → TurnHeld text (turn_of_sweep d)
+sweep_held : (text : Text) (known : ℕ) → TurnHeld text (turn_of_sweep known)
 unfolding turn_of_sweep
-sweep_held text (Going c) = go (eqb c.known 0)
+sweep_held text known = go (eqb known 0)
   where
     go : (b : Bool) → TurnHeld text (cond b Idle Sweep)
     go true = tt
     go false = tt
-sweep_held text (Stopped e) = tt
 
-pub turn_held : {text : Text} {policy : HeldPolicy} → PolicyHeld text policy → {k : ℕ} (i : ℕ) → i ≡ rule_row k policy.count → (z : HeldRule) (d : Done) (turn : Turn)
-    → TurnIs k policy.count (get_or policy.rules i z) policy.posture d turn → TurnHeld text turn
-turn_held {text} {policy} p {k} i e z d turn t =
-    split k policy.count
-    (λ h. let q = p.rules.each i z (omega (arith, e, row_low {k = k} h)) in (t.by_rule h).held text q.path q.action)
-    (λ h. split policy.count k
-    (λ l. subst (TurnHeld text) (sym (t.by_sweep l)) (sweep_held text d))
-    (λ l. (t.by_posture (omega arith)).held text p.posture))
+module _ (text : Text) (policy : HeldPolicy) where
+  -- a turn names what lies in the policy's text, and does what the task asks where the counters c are
+  pub record TurnFor (t : Task) (c : Counters) (turn : Turn) : Type 0 where
+    pub held : TurnHeld text turn
+    pub alike : (key : ℕ) (s : Separators) (β : Buffers) (ss : List Segment) → Alike (pass_of key s text (knowing text β c) turn) (pass_for key s (as_policy text policy) t (knowing text β c)) ss
 
-pub job_held : {text : Text} {on : Setting} {segs : List ℕ} → Inputs text segs on → (turn : Turn) (aim : Aim) → TurnHeld text turn → aim ≡ aim_of text turn → JobHeld text (record { on = on; turn = turn; aim = aim })
-job_held l turn aim h e = record { held = h; aim = e; policy = l.policy }
+  pub rule_for : {rule : HeldRule} {turn : Turn} {c : Counters} → PathHeld text rule.path → ActionHeld text rule.action → RuleTurn rule turn → TurnFor (ruled (as_rule text rule)) c turn
+  rule_for p a t = record { held = t.held text p a; alike = λ key s β ss. alike_eq (t.pass key s text _ ∙ unfold pass_for in refl) }
 
-module _ (text : Text) (segs : List ℕ) (on : Setting) (policy : HeldPolicy) (q : on.sweep ≡ policy.sweep) (few : on.leaves ≤ LEAVES_MAX) where
+  pub posture_for : {turn : Turn} {c : Counters} → PostureHeld text policy.posture → PostureTurn policy.posture turn → TurnFor judged c turn
+  posture_for p t = record { held = t.held text p; alike = λ key s β ss. alike_eq (t.pass key s text _ ∙ unfold pass_for as_policy in refl) }
+
+  pub sweep_for : {turn : Turn} {c : Counters} → turn ≡ turn_of_sweep c.known → TurnFor swept c turn
+  sweep_for {c = c} e = record { held = rw e (sweep_held text c.known); alike = λ key s β ss. unfold pass_for in sweep_alike key s text β c ss e }
+
+-- ---- some turns are taken
+
+module _ (text : Text) (segs : List ℕ) (on : Setting) (policy : HeldPolicy) (β₀ : Buffers) (c₀ : Counters) where
   abbrev P : Policy
   P = as_policy text policy
 
-  same_progress : {Q W : Pass} {ss : List Segment} (b : Progress) → Alike Q W ss → after_events on.sweep (segments_events Q.says ss) b ≡ progress_by P W ss b
-  unfolding progress_by as_policy
-  same_progress b a = rw (q, a.says)
+  -- those of the tasks ts, which are k, whatever stood there before them; r says how far the run has come
+  pub record Taken (k : ℕ) (ts : List Task) (β : Buffers) (r : Result Counters Refusal) : Type 0 where
+    pub to : (x : ℕ) (cr : Bool) (ss : List Segment) (b : Progress) → Stage x cr text segs on 0 ss b β₀ c₀
+        → Stands x cr text segs on k (after_tasks on.key on.separators P ts ss b) (progress_tasks on.key on.separators P ts ss b) β r
 
-  same_segments : {Q W : Pass} {ss : List Segment} → Alike Q W ss → over_segments Q.leaf ss ≡ segments_by W ss
-  unfolding segments_by
-  same_segments a = a.leaf
+  pub none_taken : Taken 0 (rules_to text policy 0) β₀ (Ok c₀)
+  unfolding as_rules after_tasks progress_tasks
+  none_taken = record { to = λ x cr ss b g. record { out = g } }
 
-  refused_stays : (W : Pass) (ss : List Segment) {b : Progress} {e : Refusal} → b ≡ stopped e → progress_by P W ss b ≡ stopped e
-  unfolding progress_by
-  refused_stays W ss {b} {e} f = rw f (stopped_stays P.sweep (segments_events W.says ss) e)
+  taken_ready : {k : ℕ} {ts : List Task} {β : Buffers} {c : Counters} → Inputs text segs on → k ≤ 130 → Begun text segs on β₀ c₀ → Taken k ts β (Ok c) → TurnReady text segs on β c
+  taken_ready l h g w = stage_turn_ready l.segmented h (w.to g.x g.cr g.ss g.progress g.stage).out
 
-  -- the pass of turn k, by what the progress knows
-  abbrev task_pass : ℕ → HeldRule → Progress → Pass
-  task_pass k rule b = pass_for on.key on.separators P (task_at text policy k rule) (known_in b)
+  module _ (q : on.sweep ≡ policy.sweep) (l : Inputs text segs on) where
+    same_progress : {Q W : Pass} {ss : List Segment} (b : Progress) → Alike Q W ss → after_events on.sweep (segments_events Q.says ss) b ≡ progress_by P W ss b
+    unfolding progress_by as_policy
+    same_progress b a = rw (q, a.says)
 
-  module _ {x : ℕ} {cr : Bool} {k : ℕ} {ss : List Segment} {b : Progress} {β β' : Buffers} (rule : HeldRule) (turn : Turn) (aim : Aim) where
-    pub turn_stands : (d : Done) → TurnIs k policy.count rule policy.posture d turn → Stands x cr text segs on k ss b β d → (r : Done)
-        → NextIs (pass_by text (record { on = on; turn = turn; aim = aim })) on text segs β d β' r → Stands x cr text segs on (k + 1) (segments_by (task_pass k rule b) ss) (progress_by P (task_pass k rule b) ss b) β' r
-    turn_stands (Going c) t g r n =
-        let job : Job = record { on = on; turn = turn; aim = aim } in
-        let o : Sound on.separators cr (pass_by text job (knowing text β c)) = unfold pass_by in turn_sound on.key on.separators cr text (knowing text β c) turn in
-        let a : Alike (pass_by text job (knowing text β c)) (task_pass k rule b) ss = rw (← progress_knows g.out) (unfold pass_by in turn_alike text policy on.key on.separators β c ss rule t) in
-        rw (same_segments a, same_progress b a) at (stands_next g.out (pass_by text job) o few r n.out)
-    turn_stands (Stopped e) t g r n = rw n.out (record { out = refused_stays (task_pass k rule b) ss g.out })
+    same_segments : {Q W : Pass} {ss : List Segment} → Alike Q W ss → over_segments Q.leaf ss ≡ segments_by W ss
+    unfolding segments_by
+    same_segments a = a.leaf
 
--- ---- k turns are taken
+    -- one more
+    module _ {k : ℕ} (ts : List Task) {β β' : Buffers} {c : Counters} (w : Taken k ts β (Ok c)) (t : Task) (turn : Turn) (f : TurnFor text policy t c turn) where
+      taken_more : (r : Result Counters Refusal) → TurnTaken (λ ks. pass_of on.key on.separators text ks turn) on segs text β c β' r → Taken (k + 1) (ts ++ (t ∷ [])) β' r
+      taken_more r n = record {
+        to = λ x cr ss b s.
+            let g = (w.to x cr ss b s).out in
+            let b' = progress_tasks on.key on.separators P ts ss b in
+            let ss' = after_tasks on.key on.separators P ts ss b in
+            let a : Alike (pass_of on.key on.separators text (knowing text β c) turn) (next_pass on.key on.separators P ts t ss b) ss' = rw (← progress_knows g) (f.alike on.key on.separators β ss') in
+            rw (task_after on.key on.separators P ts t ss b, task_progress on.key on.separators P ts t ss b)
+            (rw (same_segments a, same_progress b' a) at (stands_next g (λ ks. pass_of on.key on.separators text ks turn) (turn_sound on.key on.separators cr text (knowing text β c) turn) l.leaves r n));
+      }
 
-pub record TurnsTo (text : Text) (segs : List ℕ) (on : Setting) (policy : HeldPolicy) (β₀ : Buffers) (r₀ : Done) (k : ℕ) (β : Buffers) (r : Done) : Type 0 where
-  pub high : k ≤ policy.count + 2
-  pub tasks : List Task
-  pub first : FirstTasks text policy k tasks
-  pub to : (x : ℕ) (cr : Bool) (ss : List Segment) (b : Progress) → Stands x cr text segs on 0 ss b β₀ r₀
-      → Stands x cr text segs on k (after_tasks on.key on.separators (as_policy text policy) tasks ss b) (progress_tasks on.key on.separators (as_policy text policy) tasks ss b) β r
+  -- a run that is refused stays so, whatever tasks are left
+  stopped_tasks : (us : List Task) (ss : List Segment) {b : Progress} {e : Refusal} → b ≡ stopped e → progress_tasks on.key on.separators P us ss b ≡ stopped e
+  unfolding progress_tasks progress_by
+  stopped_tasks [] ss f = f
+  stopped_tasks (t ∷ us) ss {b} {e} f = stopped_tasks us _ (rw f (stopped_stays P.sweep _ e))
 
-module _ (text : Text) (segs : List ℕ) (on : Setting) (policy : HeldPolicy) (p : PolicyHeld text policy) (β₀ : Buffers) (r₀ : Done) where
-  pub turns_start : TurnsTo text segs on policy β₀ r₀ 0 β₀ r₀
-  unfolding after_tasks progress_tasks
-  turns_start = record { high = omega arith; tasks = []; first = first_none text policy; to = λ x cr ss b g. g }
+  taken_stops : {k : ℕ} {ts : List Task} (us : List Task) {β : Buffers} {e : Refusal} → Taken k ts β (Err e) → (x : ℕ) (cr : Bool) (ss : List Segment) (b : Progress) → Stage x cr text segs on 0 ss b β₀ c₀
+      → Stands x cr text segs on 130 (after_tasks on.key on.separators P (ts ++ us) ss b) (progress_tasks on.key on.separators P (ts ++ us) ss b) β (Err e)
+  taken_stops {ts = ts} us w x cr ss b g = record { out = tasks_progress on.key on.separators P ts us ss b ∙ stopped_tasks us _ (w.to x cr ss b g).out }
 
-  module _ (k : ℕ) (β : Buffers) (r : Done) (w : TurnsTo text segs on policy β₀ r₀ k β r) where
-    pub turns_turn_ready : Inputs text segs on → Begun text segs on β₀ r₀ → TurnReadyOr text segs on β r
-    turns_turn_ready l g = stands_turn_ready r l.segmented (omega (arith, w.high, p.few)) (w.to g.x g.cr g.ss g.progress g.stands)
+  taken_all : {k : ℕ} {ts : List Task} {β : Buffers} (r : Result Counters Refusal) → k ≤ 130 → Taken k ts β r → (x : ℕ) (cr : Bool) (ss : List Segment) (b : Progress) → Stage x cr text segs on 0 ss b β₀ c₀
+      → Stands x cr text segs on 130 (after_tasks on.key on.separators P ts ss b) (progress_tasks on.key on.separators P ts ss b) β r
+  taken_all r h w x cr ss b g = stands_later r h (w.to x cr ss b g)
 
-    pub turns_more : on.sweep ≡ policy.sweep → Inputs text segs on → k < policy.count + 2 → (i : ℕ) → i ≡ rule_row k policy.count → (z : HeldRule) (turn : Turn) (aim : Aim)
-        → TurnIs k policy.count (get_or policy.rules i z) policy.posture r turn → (β' : Buffers) (r' : Done)
-        → NextIs (pass_by text (record { on = on; turn = turn; aim = aim })) on text segs β r β' r' → TurnsTo text segs on policy β₀ r₀ (k + 1) β' r'
-    turns_more q l h i e z turn aim t β' r' n =
-        let rule = get_or policy.rules i z in
-        record {
-          high = omega arith;
-          tasks = w.tasks ++ (task_at text policy k rule ∷ []);
-          first = first_more text policy p h i e z w.first;
-          to = λ x cr ss b g.
-              rw (task_after on.key on.separators (as_policy text policy) w.tasks (task_at text policy k rule) ss b, task_progress on.key on.separators (as_policy text policy) w.tasks (task_at text policy k rule) ss b)
-              (turn_stands text segs on policy q l.leaves rule turn aim r t (w.to x cr ss b g) r' n);
-        }
+-- ---- the turns of a policy
 
-    pub turns_done : policy.count + 2 ≤ k → (x : ℕ) (cr : Bool) (ss : List Segment) (b : Progress) → Stands x cr text segs on 0 ss b β₀ r₀
-        → Stands x cr text segs on 130 (after_tasks on.key on.separators (as_policy text policy) (tasks_of (as_policy text policy)) ss b) (progress_tasks on.key on.separators (as_policy text policy) (tasks_of (as_policy text policy)) ss b) β r
-    turns_done h x cr ss b g =
-        let e : w.tasks ≡ tasks_of (as_policy text policy) = w.first.all (omega (arith, w.high)) in
-        rw e at (stands_later r {more = 130} (omega (arith, w.high, p.few)) (w.to x cr ss b g))
+module _ (text : Text) (segs : List ℕ) (on : Setting) (policy : HeldPolicy) (β₀ : Buffers) (c₀ : Counters) (q : on.sweep ≡ policy.sweep) (l : Inputs text segs on) (p : PolicyHeld text policy) where
+  -- what is taken with that turn
+  abbrev pub Next : Buffers → Counters → Turn → Buffers → Result Counters Refusal → Type 0
+  Next β c turn β' r = TurnTaken (λ ks. pass_of on.key on.separators text ks turn) on segs text β c β' r
+
+  -- all is taken
+  abbrev pub Ended : Buffers → Result Counters Refusal → Type 0
+  Ended β r = (x : ℕ) (cr : Bool) (ss : List Segment) (b : Progress) → Stage x cr text segs on 0 ss b β₀ c₀
+      → Stands x cr text segs on 130 (after_tasks on.key on.separators (as_policy text policy) (tasks_of (as_policy text policy)) ss b) (progress_tasks on.key on.separators (as_policy text policy) (tasks_of (as_policy text policy)) ss b) β r
+
+  -- k rules' turns are taken
+  module _ {k : ℕ} {β : Buffers} {c : Counters} (w : Taken text segs on policy β₀ c₀ k (rules_to text policy k) β (Ok c)) where
+    -- that of rule k is next
+    module _ (h : k < length (take policy.count policy.rules)) (z : HeldRule) {turn : Turn} (t : RuleTurn (get_or (take policy.count policy.rules) k z) turn) where
+      low : k < policy.count
+      low = omega (arith, length-take policy.count policy.rules, h)
+
+      turn_for : TurnFor text policy (ruled (as_rule text (get_or policy.rules k z))) c turn
+      turn_for =
+          let e : get_or (take policy.count policy.rules) k z ≡ get_or policy.rules k z = get_or-take policy.count policy.rules k z low in
+          let a = p.rules.each k z low in
+          rule_for text policy a.path a.action (rw e at t)
+
+      pub rule_asks : Begun text segs on β₀ c₀ → TurnHeld text turn × Inputs text segs on × TurnReady text segs on β c
+      rule_asks g = (turn_for.held, l, taken_ready text segs on policy β₀ c₀ l (omega (arith, low, p.few)) g w)
+
+      module _ {β' : Buffers} {r : Result Counters Refusal} (n : Next β c turn β' r) where
+        pub rule_made : {c' : Counters} → r ≡ Ok c' → Taken text segs on policy β₀ c₀ (k + 1) (rules_to text policy (k + 1)) β' (Ok c')
+        rule_made e = rw (rules_more text policy p low z, ← e) (taken_more text segs on policy β₀ c₀ q l (rules_to text policy k) w _ turn turn_for r n)
+
+        pub rule_refused : {x : Refusal} → r ≡ Err x → Ended β' (Err x)
+        rule_refused e = rw (rules_left text policy p low z) (taken_stops text segs on policy β₀ c₀ (left text policy p low z) (rw e at (taken_more text segs on policy β₀ c₀ q l (rules_to text policy k) w _ turn turn_for r n)))
+
+    -- they were all, and the posture's is next
+    module _ (high : k ≤ length (take policy.count policy.rules)) (h : length (take policy.count policy.rules) ≤ k) {turn : Turn} (t : PostureTurn policy.posture turn) where
+      all : k ≡ policy.count
+      all = omega (arith, length-take policy.count policy.rules, high, h, p.long, p.few)
+
+      pub posture_asks : Begun text segs on β₀ c₀ → TurnHeld text turn × Inputs text segs on × TurnReady text segs on β c
+      posture_asks g = (t.held text p.posture, l, taken_ready text segs on policy β₀ c₀ l (omega (arith, all, p.few)) g w)
+
+      module _ {β' : Buffers} {r : Result Counters Refusal} (n : Next β c turn β' r) where
+        judged_taken : Taken text segs on policy β₀ c₀ (policy.count + 1) (rules_to text policy policy.count ++ (judged ∷ [])) β' r
+        judged_taken = rw all at (taken_more text segs on policy β₀ c₀ q l (rules_to text policy k) w judged turn (posture_for text policy p.posture t) r n)
+
+        pub posture_made : {c' : Counters} → r ≡ Ok c' → Taken text segs on policy β₀ c₀ (policy.count + 1) (rules_to text policy policy.count ++ (judged ∷ [])) β' (Ok c')
+        posture_made e = rw e at judged_taken
+
+        pub posture_refused : {x : Refusal} → r ≡ Err x → Ended β' (Err x)
+        posture_refused e = rw (posture_left text policy) (taken_stops text segs on policy β₀ c₀ (swept ∷ []) (rw e at judged_taken))
+
+  -- the sweep's is next
+  module _ {β : Buffers} {c : Counters} (w : Taken text segs on policy β₀ c₀ (policy.count + 1) (rules_to text policy policy.count ++ (judged ∷ [])) β (Ok c)) {turn : Turn} (t : turn ≡ turn_of_sweep c.known) where
+    pub sweep_asks : Begun text segs on β₀ c₀ → TurnHeld text turn × Inputs text segs on × TurnReady text segs on β c
+    sweep_asks g = ((sweep_for text policy {c = c} t).held, l, taken_ready text segs on policy β₀ c₀ l (omega (arith, p.few)) g w)
+
+    pub sweep_ends : {β' : Buffers} (r : Result Counters Refusal) → Next β c turn β' r → Ended β' r
+    sweep_ends r n =
+        rw (posture_left text policy)
+        (taken_all text segs on policy β₀ c₀ r (omega (arith, p.few)) (taken_more text segs on policy β₀ c₀ q l (rules_to text policy policy.count ++ (judged ∷ [])) w swept turn (sweep_for text policy t) r n))

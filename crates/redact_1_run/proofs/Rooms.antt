@@ -1,5 +1,6 @@
 -- Laws of a turn for which room was made in the store. Assumes nothing.
-use mathlib.Core.Path.{◌≡◌, refl, sym, ap, subst, ◌∙◌}
+use Rattle.std.proofs.Common.{Result, Ok, Err}
+use mathlib.Core.Path.{◌≡◌, refl, sym, ap, ◌∙◌}
 use mathlib.Core.Bool.{Bool}
 use mathlib.Core.List.{List, [], ◌∷◌}
 use mathlib.Core.Option.{Option, none, some}
@@ -21,8 +22,7 @@ use Rattle.er7_render.proofs.Room.{text_long, live_text, room_sum}
 use Rattle.redact_4_leaf.specs.Walk.{Pass, segment_of}
 use Rattle.redact_5_act.specs.declared.state.Setting.{Setting}
 use Rattle.redact_5_act.specs.declared.state.Counters.{Counters}
-use Rattle.redact_5_act.specs.declared.state.Done.{Done}
-use Rattle.redact_5_act.specs.declared.state.Done.TheVariants.{Going, Stopped}
+use Rattle.refusal.specs.declared.Refusal.{Refusal}
 use Rattle.redact_4_leaf.specs.State.{Buffers, buffers, marked, known_now, RecordedIn, Held, RoomLeft}
 use Rattle.redact_4_leaf.proofs.Visits.{known_same, held_same}
 use Rattle.redact_2_turn.specs.Ordered.{AllOrdered}
@@ -30,7 +30,7 @@ use Rattle.redact_2_turn.specs.Taken.{Ahead, TurnTaken}
 use Rattle.redact_2_turn.specs.Turn.{by_node}
 use Rattle.redact_2_turn.specs.declared.turn.Job.{Job}
 use Rattle.redact_2_turn.proofs.Idle.{ordered_as}
-use Rattle.redact_1_run.specs.Stage.{TurnReady, TurnReadyOr, RoomFor, MadeRoom, NextIs}
+use Rattle.redact_1_run.specs.Stage.{TurnReady, RoomFor, MadeRoom}
 
 -- ---- what room is good for
 
@@ -142,8 +142,8 @@ module _ (text : Text) (on : Setting) (named : List Bool) (report : Text) (known
     same_pass : P (known_now text bytes' known c') ≡ P (known_now text bytes known c)
     same_pass = ap P same_knowing
 
-    room_turned : (r : Done) → TurnTaken P on segs text behind c' β r → TurnTaken P on segs text before c β r
-    room_turned (Going x) t =
+    pub room_turned : (r : Result Counters Refusal) → TurnTaken P on segs text behind c' β r → TurnTaken P on segs text before c β r
+    room_turned (Ok x) t =
         let q = room_segments w.room (label_at segs) (first_leaf segs) on.segments z.order z.all (marked named) in
         record {
           out = record {
@@ -156,12 +156,9 @@ module _ (text : Text) (on : Setting) (named : List Bool) (report : Text) (known
             most = t.out.most;
           };
         }
-    room_turned (Stopped e) t =
+    room_turned (Err e) t =
         let q = room_segments w.room (label_at segs) (first_leaf segs) on.segments z.order z.all (marked named) in
         record { out = λ b k. sym (rw (q, same_pass)) ∙ t.out b (room_recorded b k) }
-
-    pub room_next : {d : Done} → d ≡ Going c → {r : Done} → TurnTaken P on segs text behind c' β r → NextIs P on text segs before d β r
-    room_next e {r} t = rw e (record { out = room_turned r t })
 
 -- the fields are in order behind it, too
 pub room_ordered : {segs : List ℕ} {m n : ℕ} {cells cells' : List ℕ} {store store' bytes bytes' : Text} {c c' : Counters} → Segmented segs m n → MadeRoom n cells store bytes c cells' store' bytes' c'
@@ -172,22 +169,7 @@ room_ordered {segs} {m} {n} {cells} {cells'} {store} {store'} z w a = record {
       (λ j x y. w.room.leaf (marked []) j (omega (arith, z.order (k + 1) m (omega arith) (omega arith), z.all))) (a.ordered k h);
 }
 
--- a turn by the tally that it was lent, with the counters c before and r behind it
-module _ {P : List Known → Pass} {on : Setting} {segs : List ℕ} {text : Text} {β₀ β : Buffers} {c₀ c : Counters} {d : Done} (e : c₀ ≡ c) (t : TurnTaken P on segs text β₀ c₀ β d) where
-  pub turn_made : {c₁ r : Counters} → d ≡ Going c₁ → r ≡ c₁ → TurnTaken P on segs text β₀ c β (Going r)
-  turn_made q f = rw (← e, f) (rw q at t)
-
-  pub turn_refused : {x : Refusal} → d ≡ Stopped x → TurnTaken P on segs text β₀ c β (Stopped x)
-  turn_refused q = rw (← e) (rw q at t)
-
--- a run that was refused before
-pub next_stopped : {P : List Known → Pass} {on : Setting} {text : Text} {segs : List ℕ} {β β' : Buffers} {d : Done} {e : Refusal} → d ≡ Stopped e → NextIs P on text segs β d β' (Stopped e)
-next_stopped q = rw q (record { out = refl })
-
--- what stands before a turn, by how far the run has come
-module _ (text : Text) (segs : List ℕ) (on : Setting) (β : Buffers) (r : Done) where
-  pub turn_ready_going : {c : Counters} → TurnReadyOr text segs on β r → r ≡ Going c → TurnReady text segs on β c
-  turn_ready_going g e = subst (TurnReadyOr text segs on β) e g
+-- ---- what a turn asks for
 
 module _ {text : Text} {segs : List ℕ} {on : Setting} {β : Buffers} {c : Counters} (p : TurnReady text segs on β c) where
   pub turn_ready_room : RoomFor on.leaves β.cells β.store c

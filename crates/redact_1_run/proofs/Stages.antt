@@ -1,4 +1,5 @@
 -- Laws of a run between two turns. Assumes nothing.
+use Rattle.std.proofs.Common.{Result, Ok, Err}
 use mathlib.Core.Path.{◌≡◌, sym, ap, ◌∙◌}
 use mathlib.Core.Bool.{Bool}
 use mathlib.Core.List.{List}
@@ -21,8 +22,7 @@ use Rattle.run_model.proofs.Sizes.{Moves, rule_sizes, unnamed_sizes, progress_si
 use Rattle.er7_table.specs.Table.{list_of, first_leaf, label_at, Segmented}
 use Rattle.redact_5_act.specs.declared.state.Setting.{Setting}
 use Rattle.redact_5_act.specs.declared.state.Counters.{Counters}
-use Rattle.redact_5_act.specs.declared.state.Done.{Done}
-use Rattle.redact_5_act.specs.declared.state.Done.TheVariants.{Going, Stopped}
+use Rattle.refusal.specs.declared.Refusal.{Refusal}
 use Rattle.redact_4_leaf.specs.Walk.{Pass, segment_of}
 use Rattle.redact_4_leaf.specs.State.{Buffers, leaves, knowing, marked}
 use Rattle.redact_4_leaf.specs.Visit.{rule_pass, unnamed_pass}
@@ -30,7 +30,7 @@ use Rattle.redact_2_turn.specs.Turn.{pass_of}
 use Rattle.redact_2_turn.specs.declared.turn.Turn.{Turn}
 use Rattle.redact_2_turn.specs.declared.turn.Turn.TheVariants.{Apply, Collapse, Reject, Sweep, Idle}
 use Rattle.redact_2_turn.specs.Taken.{Advanced, Turned, TurnTaken}
-use Rattle.redact_1_run.specs.Stage.{segments_of, Stage, Stands, TurnReady, TurnReadyOr}
+use Rattle.redact_1_run.specs.Stage.{segments_of, Stage, Stands, TurnReady}
 use Rattle.redact_1_run.proofs.Orders.{chained_ordered}
 use Rattle.redact_1_run.proofs.Rooms.{live_printed}
 
@@ -116,15 +116,15 @@ module _ {x : ℕ} {cr : Bool} {text : Text} {segs : List ℕ} {on : Setting} {t
   turn_stops Q q = sym (ap (λ xs. after_events on.sweep (segments_events Q.says xs) b) all_segments) ∙ q
 
   -- a turn was taken
-  pub stands_next : (P : List Known → Pass) → Sound on.separators cr (P (knowing text β c)) → on.leaves ≤ LEAVES_MAX → {β' : Buffers} (r : Done) → TurnTaken P on segs text β c β' r
+  pub stands_next : (P : List Known → Pass) → Sound on.separators cr (P (knowing text β c)) → on.leaves ≤ LEAVES_MAX → {β' : Buffers} (r : Result Counters Refusal) → TurnTaken P on segs text β c β' r
       → Stands x cr text segs on (turns + 1) (over_segments (P (knowing text β c)).leaf ss) (after_events on.sweep (segments_events (P (knowing text β c)).says ss) b) β' r
-  stands_next P q few (Going c') t = record { out = stage_turn {P = P} q few t.out }
-  stands_next P q few (Stopped e) t = record { out = turn_stops (P (knowing text β c)) (t.out b g.recorded) }
+  stands_next P q few (Ok c') t = record { out = stage_turn {P = P} q few t.out }
+  stands_next P q few (Err e) t = record { out = turn_stops (P (knowing text β c)) (t.out b g.recorded) }
 
 -- ---- what a turn asks for, and what it leaves
 
 module _ {x : ℕ} {cr : Bool} {text : Text} {segs : List ℕ} {on : Setting} {turns : ℕ} {ss : List Segment} {b : Progress} {β : Buffers} where
-  stage_turn_ready : {c : Counters} → Segmented segs on.segments on.leaves → turns ≤ 130 → Stage x cr text segs on turns ss b β c → TurnReady text segs on β c
+  pub stage_turn_ready : {c : Counters} → Segmented segs on.segments on.leaves → turns ≤ 130 → Stage x cr text segs on turns ss b β c → TurnReady text segs on β c
   stage_turn_ready {c} z few g =
       let l = live_printed on.separators cr (marked β.named) g.held.good (label_at segs) (first_leaf segs) on.segments z.order z.all z.none_before in
       let k = rw (all_segments g) at l in
@@ -136,10 +136,6 @@ module _ {x : ℕ} {cr : Bool} {text : Text} {segs : List ℕ} {on : Setting} {t
         rows = omega (arith, g.rows);
         report = omega (arith, g.report);
       }
-
-  pub stands_turn_ready : (r : Done) → Segmented segs on.segments on.leaves → turns ≤ 130 → Stands x cr text segs on turns ss b β r → TurnReadyOr text segs on β r
-  stands_turn_ready (Going c) z few g = stage_turn_ready z few g.out
-  stands_turn_ready (Stopped e) z few g = tt
 
   stage_later : {c : Counters} {more : ℕ} → turns ≤ more → Stage x cr text segs on turns ss b β c → Stage x cr text segs on more ss b β c
   stage_later h g = record {
@@ -154,6 +150,6 @@ module _ {x : ℕ} {cr : Bool} {text : Text} {segs : List ℕ} {on : Setting} {t
     report = omega (arith, g.report);
   }
 
-  pub stands_later : (r : Done) {more : ℕ} → turns ≤ more → Stands x cr text segs on turns ss b β r → Stands x cr text segs on more ss b β r
-  stands_later (Going c) h g = record { out = stage_later h g.out }
-  stands_later (Stopped e) h g = record { out = g.out }
+  pub stands_later : (r : Result Counters Refusal) {more : ℕ} → turns ≤ more → Stands x cr text segs on turns ss b β r → Stands x cr text segs on more ss b β r
+  stands_later (Ok c) h g = record { out = stage_later h g.out }
+  stands_later (Err e) h g = record { out = g.out }

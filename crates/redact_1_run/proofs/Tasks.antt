@@ -1,14 +1,7 @@
 -- Laws of the tasks of a policy, one behind the other. Assumes nothing.
-use mathlib.Core.Path.{◌≡◌, refl, sym, ap, ◌∙◌}
-use mathlib.Core.Bool.{Bool, cond}
-use mathlib.Core.List.{List, [], ◌∷◌, ◌++◌, map, map-append, append_assoc}
-use Prim.Native.Nat.{ℕ, ◌+◌, ◌≤◌, ◌<◌}
-use native.Mathlib.Omega.{arith}
-use borrow.Author.Tests.{lt-ltb, le-ltb, eq-eqb, ne_eqb}
-use lib.Dec.{eqb, ltb}
-use lib.ListN.{length, get_or}
+use Rattle.std.proofs.Common.{◌≡◌, refl, sym, ap, ◌∙◌, Bool, List, [], ◌∷◌, ◌++◌, map, append_assoc, ℕ, ◌+◌, ◌<◌, get_or, arith}
+use mathlib.Core.List.{map-append}
 use Rattle.text.specs.Text.{Text}
-use Rattle.text.proofs.Laws.{split}
 use Rattle.er7.specs.declared.separators.Separators.{Separators}
 use Rattle.er7_redact.specs.Policy.{Rule, as_rule}
 use Rattle.er7_redact.specs.declared.policy.Rule.{Rule as HeldRule}
@@ -16,13 +9,12 @@ use Rattle.message_model.specs.Message.{Segment, Message}
 use Rattle.policy_model.specs.Policy.{Policy}
 use Rattle.policy.specs.Policy.{as_rules, as_policy, PolicyHeld}
 use Rattle.policy.specs.declared.policy.Policy.{Policy as HeldPolicy}
-use Rattle.policy.proofs.Rules.{rules_step}
+use Rattle.policy.proofs.Rules.{behind, rules_step, rules_split}
 use Rattle.run_model.specs.Redact.{Progress, running, known_in, after_events, over_segments, segments_events, unnamed_leaf, unnamed_events, after_rule, after_rules, rules_events, for_posture, before_sweep, events_before_sweep, progress_before_sweep, redacted_as, swept as sweptAs, redact_from}
 use Rattle.redact_4_leaf.specs.Walk.{Pass}
 use Rattle.redact_4_leaf.specs.Visit.{rule_pass, unnamed_pass}
 use Rattle.redact_4_leaf.proofs.Walks.{progress_append}
-use Rattle.redact_1_run.specs.Turns.{Task, ruled, judged, swept, tasks_of, pass_for, segments_by, progress_by, after_tasks, progress_tasks, rule_row}
-use Rattle.redact_1_run.proofs.Steps.{row_low}
+use Rattle.redact_1_run.specs.Turns.{Task, ruled, judged, swept, tasks_of, pass_for, segments_by, progress_by, after_tasks, progress_tasks}
 
 -- ---- tasks behind tasks
 
@@ -32,7 +24,7 @@ module _ (key : ℕ) (s : Separators) (P : Policy) where
   tasks_after [] us ss b = refl
   tasks_after (t ∷ ts) us ss b = tasks_after ts us _ _
 
-  tasks_progress : (ts us : List Task) (ss : List Segment) (b : Progress) → progress_tasks key s P (ts ++ us) ss b ≡ progress_tasks key s P us (after_tasks key s P ts ss b) (progress_tasks key s P ts ss b)
+  pub tasks_progress : (ts us : List Task) (ss : List Segment) (b : Progress) → progress_tasks key s P (ts ++ us) ss b ≡ progress_tasks key s P us (after_tasks key s P ts ss b) (progress_tasks key s P ts ss b)
   unfolding after_tasks progress_tasks
   tasks_progress [] us ss b = refl
   tasks_progress (t ∷ ts) us ss b = tasks_progress ts us _ _
@@ -94,62 +86,30 @@ pub tasks_redact : (key size : ℕ) (P : Policy) (m : Message)
 unfolding redact_from
 tasks_redact key size P m = tasks_run key m.separators P m.last_cr m.segments size
 
--- ---- the first tasks of a policy's struct
+-- ---- the tasks of a policy's struct
 
 module _ (text : Text) (policy : HeldPolicy) where
-  -- those of the first k turns
-  pub record FirstTasks (k : ℕ) (ts : List Task) : Type 0 where
-    pub rules : k ≤ policy.count → ts ≡ map ruled (as_rules text policy.rules k)
-    pub posture : k ≡ policy.count + 1 → ts ≡ map ruled (as_rules text policy.rules policy.count) ++ (judged ∷ [])
-    pub all : k ≡ policy.count + 2 → ts ≡ tasks_of (as_policy text policy)
+  -- those of its first k rules, and of all
+  abbrev pub rules_to : ℕ → List Task
+  rules_to k = map ruled (as_rules text policy.rules k)
 
-  -- the task of turn k, with rule k
-  unfoldable pub task_at : ℕ → HeldRule → Task
-  task_at k rule = cond (ltb k policy.count) (ruled (as_rule text rule)) (cond (eqb k policy.count) judged swept)
+  module _ (p : PolicyHeld text policy) {k : ℕ} (h : k < policy.count) (z : HeldRule) where
+    abbrev this : Task
+    this = ruled (as_rule text (get_or policy.rules k z))
 
-  pub first_none : FirstTasks 0 []
-  unfolding as_rules
-  first_none = record { rules = λ h. refl; posture = λ e. absurd (omega arith); all = λ e. absurd (omega arith) }
+    pub rules_more : rules_to (k + 1) ≡ rules_to k ++ (this ∷ [])
+    rules_more = rw (rules_step text policy.rules k z (omega (arith, p.long, p.few))) (map-append ruled (as_rules text policy.rules k) (as_rule text (get_or policy.rules k z) ∷ []))
 
-  module _ {k : ℕ} (rule : HeldRule) where
-    pub task_rule : k < policy.count → task_at k rule ≡ ruled (as_rule text rule)
-    unfolding task_at
-    task_rule h = rw (lt-ltb k policy.count h)
+    -- what is left behind it
+    abbrev pub left : List Task
+    left = map ruled (behind text policy.rules k z policy.count) ++ (judged ∷ swept ∷ [])
 
-    pub task_posture : k ≡ policy.count → task_at k rule ≡ judged
-    unfolding task_at
-    task_posture e = rw (le-ltb k policy.count (omega arith), eq-eqb k policy.count e)
+    pub rules_left : tasks_of (as_policy text policy) ≡ (rules_to k ++ (this ∷ [])) ++ left
+    unfolding tasks_of as_policy
+    rules_left =
+        rw (← rules_more, rules_split text policy.rules k z policy.count h (omega (arith, p.long, p.few)), map-append ruled (as_rules text policy.rules (k + 1)) (behind text policy.rules k z policy.count))
+        (append_assoc (rules_to (k + 1)) (map ruled (behind text policy.rules k z policy.count)) (judged ∷ swept ∷ []))
 
-    pub task_sweep : policy.count < k → task_at k rule ≡ swept
-    unfolding task_at
-    task_sweep h = rw (le-ltb k policy.count (omega arith), ne_eqb k policy.count (λ e. omega arith))
-
-    module _ {ts : List Task} (f : FirstTasks k ts) where
-      more_rules : k < policy.count → k < length policy.rules → (z : HeldRule) → rule ≡ get_or policy.rules k z → FirstTasks (k + 1) (ts ++ (task_at k rule ∷ []))
-      more_rules h l z e = record {
-        rules = λ a. rw (task_rule h, f.rules (omega arith), rules_step text policy.rules k z l, ← e) (sym (map-append ruled (as_rules text policy.rules k) (as_rule text rule ∷ [])));
-        posture = λ q. absurd (omega arith);
-        all = λ q. absurd (omega arith);
-      }
-
-      more_posture : k ≡ policy.count → FirstTasks (k + 1) (ts ++ (task_at k rule ∷ []))
-      more_posture e = record {
-        rules = λ h. absurd (omega arith);
-        posture = λ q. rw (task_posture e, f.rules (omega arith)) (ap (λ n. map ruled (as_rules text policy.rules n) ++ (judged ∷ [])) e);
-        all = λ q. absurd (omega arith);
-      }
-
-      more_sweep : k ≡ policy.count + 1 → FirstTasks (k + 1) (ts ++ (task_at k rule ∷ []))
-      more_sweep e = record {
-        rules = λ h. absurd (omega arith);
-        posture = λ q. absurd (omega arith);
-        all = λ q. rw (task_sweep (omega arith), f.posture e) (unfold tasks_of as_policy in append_assoc (map ruled (as_rules text policy.rules policy.count)) (judged ∷ []) (swept ∷ []));
-      }
-
-  -- one more, with the rule that stands in its row
-  pub first_more : PolicyHeld text policy → {k : ℕ} → k < policy.count + 2 → (i : ℕ) → i ≡ rule_row k policy.count → (z : HeldRule) {ts : List Task} → FirstTasks k ts
-      → FirstTasks (k + 1) (ts ++ (task_at k (get_or policy.rules i z) ∷ []))
-  first_more p {k} h i e z f =
-      split k policy.count
-      (λ a. more_rules (get_or policy.rules i z) f a (omega (arith, p.long, p.few)) z (ap (λ j. get_or policy.rules j z) (e ∙ sym (row_low a))))
-      (λ a. split policy.count k (λ b. more_sweep (get_or policy.rules i z) f (omega arith)) (λ b. more_posture (get_or policy.rules i z) f (omega arith)))
+  pub posture_left : tasks_of (as_policy text policy) ≡ (rules_to policy.count ++ (judged ∷ [])) ++ (swept ∷ [])
+  unfolding tasks_of as_policy
+  posture_left = sym (append_assoc (rules_to policy.count) (judged ∷ []) (swept ∷ []))

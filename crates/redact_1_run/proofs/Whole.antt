@@ -1,8 +1,9 @@
 -- A run from a message's tables to its redacted text. Assumes nothing.
+use Rattle.std.proofs.Common.{Result, Ok, Err}
 use mathlib.Core.Path.{◌≡◌, refl, sym, ap, ◌∙◌}
 use mathlib.Core.Bool.{Bool, false}
 use mathlib.Core.List.{List, []}
-use Prim.Native.Nat.{ℕ, zero, suc, ◌+◌, ◌-◌, ◌≤◌, ◌<◌}
+use Prim.Native.Nat.{ℕ, zero, suc, ◌+◌, ◌-◌, ◌≤◌}
 use native.Mathlib.Numerals.{add-one}
 use native.Mathlib.Omega.{arith}
 use lib.ListN.{length, replicate, get_or, take}
@@ -18,7 +19,6 @@ use Rattle.er7_table.specs.Table.{first_leaf, label_at, segment_at, segments_fro
 use Rattle.er7_table.proofs.Laws.{list_ext, segments_named}
 use Rattle.er7_message.specs.Parsed.{Standing}
 use Rattle.er7_message.specs.declared.message.Layout.{Layout}
-use Rattle.er7_message.specs.declared.message.ParsedMessage.TheVariants.{Read}
 use Rattle.er7_message.proofs.Parsing.{standing_over}
 use Rattle.er7_render.specs.Rendered.{rendered}
 use Rattle.er7_render.proofs.Laws.{rendered_named}
@@ -27,14 +27,12 @@ use Rattle.redact_6_row.proofs.Rows.{reported_none}
 use Rattle.redact_5_act.specs.Known.{known_from, GoodKnown}
 use Rattle.redact_5_act.specs.declared.state.Setting.{Setting}
 use Rattle.redact_5_act.specs.declared.state.Counters.{Counters}
-use Rattle.redact_5_act.specs.declared.state.Done.{Done}
-use Rattle.redact_5_act.specs.declared.state.Done.TheVariants.{Going, Stopped}
+use Rattle.refusal.specs.declared.Refusal.{Refusal}
 use Rattle.redact_4_leaf.specs.Walk.{segment_of}
 use Rattle.redact_4_leaf.specs.State.{Buffers, buffers, leaves, marked, known_now}
 use Rattle.redact_1_run.specs.Turns.{tasks_of, after_tasks, progress_tasks}
 use Rattle.redact_1_run.specs.Stage.{segments_of, Stage, Stands, Begun, Inputs}
 use Rattle.redact_1_run.specs.Ran.{Loaded, AnyLoaded, Printable, Ran, RedactedIs}
-use Rattle.redact_1_run.specs.declared.from_tables.Redacted.TheVariants.{Redacted as Whole, Refused}
 use Rattle.redact_1_run.proofs.Tasks.{tasks_redact}
 
 -- ---- the segments that the buffers hold, as the tables' definitions have them
@@ -74,7 +72,7 @@ module _ (key : ℕ) (sweep : Bool) {message : Text} {m : Message} {policy : Tex
   front = wrote_part p
 
   over : Standing store' m segs cells layout
-  over = standing_over message store' m segs cells (Read layout) front (omega (arith, wrote_length p, p.high, p.end)) w.standing
+  over = standing_over message store' m segs cells (Ok layout) front (omega (arith, wrote_length p, p.high, p.end)) w.standing
 
   abbrev first_buffers : Buffers
   first_buffers = buffers (replicate LEAVES_MAX false) cells store' report bytes known
@@ -99,7 +97,7 @@ module _ (key : ℕ) (sweep : Bool) {message : Text} {m : Message} {policy : Tex
     sum = refl;
   }
 
-  first_stage : Stage (size - length message) m.last_cr policy segs (setting_of key sweep layout) 0 m.segments (running [] [] size) first_buffers (started size used)
+  pub first_stage : Stage (size - length message) m.last_cr policy segs (setting_of key sweep layout) 0 m.segments (running [] [] size) first_buffers (started size used)
   unfolding known_now known_from
   first_stage = record {
     segments = first_segments;
@@ -117,18 +115,15 @@ module _ (key : ℕ) (sweep : Bool) {message : Text} {m : Message} {policy : Tex
     report = omega arith;
   }
 
-  pub first_stands : Stands (size - length message) m.last_cr policy segs (setting_of key sweep layout) 0 m.segments (running [] [] size) first_buffers (Going (started size used))
-  first_stands = record { out = first_stage }
-
 module _ {message policy : Text} {size : ℕ} {layout : Layout} {segs cells : List ℕ} (w : AnyLoaded message policy size layout segs cells) where
   pub run_begun : (key : ℕ) (sweep : Bool) {store store' : Text} {used : ℕ} → Wrote store 0 message store' used → (report bytes : Text) (known : List ℕ)
-      → Begun policy segs (setting_of key sweep layout) (buffers (replicate LEAVES_MAX false) cells store' report bytes known) (Going (started size used))
+      → Begun policy segs (setting_of key sweep layout) (buffers (replicate LEAVES_MAX false) cells store' report bytes known) (started size used)
   run_begun key sweep p report bytes known = record {
     x = size - length message;
     cr = w.message.last_cr;
     ss = w.message.segments;
     progress = running [] [] size;
-    stands = first_stands key sweep w.loaded p report bytes known;
+    stage = first_stage key sweep w.loaded p report bytes known;
   }
 
   pub run_lent : (key : ℕ) (sweep : Bool) → Inputs policy segs (setting_of key sweep layout)
@@ -159,8 +154,8 @@ module _ (key : ℕ) (sweep : Bool) {x : ℕ} {cr : Bool} {text : Text} {layout 
 
 -- what is left by all turns, f, from the first buffers
 module _ (key : ℕ) (sweep : Bool) (P : Policy) {message : Text} {m : Message} {policy : Text} {size : ℕ} {layout : Layout} {segs cells₀ : List ℕ} (w : Loaded message m policy size layout segs cells₀)
-    {store₀ store₁ : Text} {used : ℕ} (p : Wrote store₀ 0 message store₁ used) (report₁ bytes₁ : Text) (known₁ : List ℕ) (named : List Bool) (cells : List ℕ) (store report bytes : Text) (known : List ℕ) (r : Done)
-    (f : (x : ℕ) (cr : Bool) (ss : List Segment) (b : Progress) → Stands x cr policy segs (setting_of key sweep layout) 0 ss b (buffers (replicate LEAVES_MAX false) cells₀ store₁ report₁ bytes₁ known₁) (Going (started size used))
+    {store₀ store₁ : Text} {used : ℕ} (p : Wrote store₀ 0 message store₁ used) (report₁ bytes₁ : Text) (known₁ : List ℕ) (named : List Bool) (cells : List ℕ) (store report bytes : Text) (known : List ℕ) (r : Result Counters Refusal)
+    (f : (x : ℕ) (cr : Bool) (ss : List Segment) (b : Progress) → Stage x cr policy segs (setting_of key sweep layout) 0 ss b (buffers (replicate LEAVES_MAX false) cells₀ store₁ report₁ bytes₁ known₁) (started size used)
     → Stands x cr policy segs (setting_of key sweep layout) 130 (after_tasks key layout.separators P (tasks_of P) ss b) (progress_tasks key layout.separators P (tasks_of P) ss b) (buffers named cells store report bytes known) r) where
   abbrev ss' : List Segment
   ss' = after_tasks key layout.separators P (tasks_of P) m.segments (running [] [] size)
@@ -169,12 +164,12 @@ module _ (key : ℕ) (sweep : Bool) (P : Policy) {message : Text} {m : Message} 
   b' = progress_tasks key layout.separators P (tasks_of P) m.segments (running [] [] size)
 
   last_stands : Stands (size - length message) m.last_cr policy segs (setting_of key sweep layout) 130 ss' b' (buffers named cells store report bytes known) r
-  last_stands = f (size - length message) m.last_cr m.segments (running [] [] size) (first_stands key sweep w p report₁ bytes₁ known₁)
+  last_stands = f (size - length message) m.last_cr m.segments (running [] [] size) (first_stage key sweep w p report₁ bytes₁ known₁)
 
   run_is : redact_from size key P m ≡ redacted_as layout.separators m.last_cr b' ss'
   run_is = rw w.standing.separators (tasks_redact key size P m)
 
-  module _ {c : Counters} (e : r ≡ Going c) where
+  module _ {c : Counters} (e : r ≡ Ok c) where
     last_stage : Stage (size - length message) m.last_cr policy segs (setting_of key sweep layout) 130 ss' b' (buffers named cells store report bytes known) c
     last_stage = (rw e at last_stands).out
 
@@ -198,40 +193,6 @@ module _ (key : ℕ) (sweep : Bool) (P : Policy) {message : Text} {m : Message} 
       reported = last_stage.recorded.reported;
     }
 
-  pub end_refused : {e : Refusal} → r ≡ Stopped e → (output report' : Text) → RedactedIs (redact_from size key P m) output output report' (Refused e)
+  pub end_refused : {e : Refusal} → r ≡ Err e → (output report' : Text) → RedactedIs (redact_from size key P m) output output report' (Err e)
   unfolding redacted_as
   end_refused q output report' = let s = rw q at last_stands in record { out = (run_is ∙ rw s.out, refl) }
-
--- ---- `print_text`
-
-module _ {layout : Layout} {segs cells : List ℕ} {store : Text} {len : ℕ} (p : Printable layout segs cells store len) {output : Text} {c : Counters} where
-  -- there is room for the text
-  pub text_fits : {output' : Text} {k : ℕ} → Wrote output 0 (rendered layout segs cells store) output' k → (d : R.Redacted) (report : Text) → Ran d layout segs cells store report c
-      → RedactedIs d output output' report (Whole len c.report_len c.rows)
-  text_fits w d report g = record {
-    out = record {
-      text = rendered layout segs cells store;
-      rows = g.rows;
-      is = g.is;
-      long = p.long;
-      count = g.count;
-      reported = g.reported;
-      fits = λ h. record { end = omega (arith, p.long); high = omega (arith, p.long); text = w.text };
-      full = λ h. absurd (omega (arith, w.end, w.high));
-    };
-  }
-
-  -- there is none
-  pub text_full : length output < len → (d : R.Redacted) (report : Text) → Ran d layout segs cells store report c → RedactedIs d output output report (Whole len c.report_len c.rows)
-  text_full l d report g = record {
-    out = record {
-      text = rendered layout segs cells store;
-      rows = g.rows;
-      is = g.is;
-      long = p.long;
-      count = g.count;
-      reported = g.reported;
-      fits = λ h. absurd (omega (arith, p.long));
-      full = λ h. refl;
-    };
-  }

@@ -1,5 +1,5 @@
 -- What redacting one message leaves. Assumes nothing: these are definitions.
-use Rattle.std.specs.Prelude.{◌≡◌, List, ℕ, ◌≤◌, ◌<◌, length}
+use Rattle.std.specs.Prelude.{◌≡◌, List, ℕ, ◌≤◌, ◌<◌, length, Result, Ok, Err}
 use Rattle.text.specs.Text.{Text, Wrote}
 use Rattle.message_model.specs.Message.{Message, print_message}
 use Rattle.message_model.specs.Chain.{Chained}
@@ -13,7 +13,7 @@ use Rattle.er7_render.specs.Rendered.{rendered}
 use Rattle.redact_6_row.specs.Report.{Reported}
 use Rattle.redact_5_act.specs.declared.state.Counters.{Counters}
 use Rattle.redact_1_run.specs.declared.from_tables.Redacted.{Redacted}
-use Rattle.redact_1_run.specs.declared.from_tables.Redacted.TheVariants.{Redacted as Whole, Refused}
+use Rattle.refusal.specs.declared.Refusal.{Refusal}
 use Rattle.refusal.specs.Limits.{INPUT_MAX, TEXT_MAX}
 
 -- a message that was read stands in the tables, over its bytes t; `size` bytes are there when its turn begins: its own, and those beside it
@@ -58,9 +58,9 @@ pub record Left (d : R.Redacted) (n k m : ℕ) (output output' report' : Text) :
   pub fits : length text ≤ length output → Wrote output 0 text output' n
   pub full : length output < length text → output' ≡ output
 
-abbrev pub LeftOr : R.Redacted → Text → Text → Text → Redacted → Type 0
-LeftOr d output output' report' (Whole n k m) = Left d n k m output output' report'
-LeftOr d output output' report' (Refused e) = (d ≡ R.refused e) × (output' ≡ output)
+abbrev pub LeftOr : R.Redacted → Text → Text → Text → Result Redacted Refusal → Type 0
+LeftOr d output output' report' (Ok r) = Left d r.text_len r.report_len r.rows output output' report'
+LeftOr d output output' report' (Err e) = (d ≡ R.refused e) × (output' ≡ output)
 
-pub record RedactedIs (d : R.Redacted) (output output' report' : Text) (r : Redacted) : Type 0 where
+pub record RedactedIs (d : R.Redacted) (output output' report' : Text) (r : Result Redacted Refusal) : Type 0 where
   pub out : LeftOr d output output' report' r

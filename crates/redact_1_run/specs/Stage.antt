@@ -1,20 +1,18 @@
 -- What stands between two turns of a run. Assumes nothing: these are definitions.
-use Rattle.std.specs.Prelude.{◌≡◌, Bool, List, ℕ, ◌+◌, ◌*◌, ◌≤◌, ◌^◌, length}
+use Rattle.std.specs.Prelude.{◌≡◌, Bool, List, ℕ, ◌+◌, ◌*◌, ◌≤◌, ◌^◌, length, Result, Ok, Err}
 use Rattle.text.specs.Text.{Text}
 use Rattle.message_model.specs.Message.{Segment, print_segments}
 use Rattle.message_model.specs.Chain.{Chained}
 use Rattle.run_model.specs.Order.{FieldsFirst}
-use Rattle.run_model.specs.Redact.{Known, Progress, stopped}
+use Rattle.run_model.specs.Redact.{Progress, stopped}
 use Rattle.er7_table.specs.Table.{list_of, first_leaf, label_at, Good, Segmented, AllNamed}
 use Rattle.er7_render.specs.Stored.{live_sum, RoomMade}
 use Rattle.redact_5_act.specs.declared.state.Setting.{Setting}
 use Rattle.redact_5_act.specs.declared.state.Counters.{Counters}
-use Rattle.redact_5_act.specs.declared.state.Done.{Done}
-use Rattle.redact_5_act.specs.declared.state.Done.TheVariants.{Going, Stopped}
-use Rattle.redact_4_leaf.specs.Walk.{Pass, segment_of}
+use Rattle.refusal.specs.declared.Refusal.{Refusal}
+use Rattle.redact_4_leaf.specs.Walk.{segment_of}
 use Rattle.redact_4_leaf.specs.State.{Buffers, leaves, RecordedIn, Held}
 use Rattle.redact_2_turn.specs.Ordered.{AllOrdered}
-use Rattle.redact_2_turn.specs.Taken.{TurnTaken}
 use Rattle.refusal.specs.Limits.{INPUT_MAX, LEARNT_BYTES_MAX, LEAVES_MAX, TEXT_MAX}
 
 -- the segments that the buffers hold
@@ -34,20 +32,20 @@ pub record Stage (x : ℕ) (cr : Bool) (text : Text) (segs : List ℕ) (on : Set
   pub report : c.report_len ≤ turns * 268435456
 
 -- .. or the run was refused
-abbrev pub StageOr : ℕ → Bool → Text → List ℕ → Setting → ℕ → List Segment → Progress → Buffers → Done → Type 0
-StageOr x cr text segs on turns ss b β (Going c) = Stage x cr text segs on turns ss b β c
-StageOr x cr text segs on turns ss b β (Stopped e) = b ≡ stopped e
+abbrev pub StageOr : ℕ → Bool → Text → List ℕ → Setting → ℕ → List Segment → Progress → Buffers → Result Counters Refusal → Type 0
+StageOr x cr text segs on turns ss b β (Ok c) = Stage x cr text segs on turns ss b β c
+StageOr x cr text segs on turns ss b β (Err e) = b ≡ stopped e
 
-pub record Stands (x : ℕ) (cr : Bool) (text : Text) (segs : List ℕ) (on : Setting) (turns : ℕ) (ss : List Segment) (b : Progress) (β : Buffers) (r : Done) : Type 0 where
+pub record Stands (x : ℕ) (cr : Bool) (text : Text) (segs : List ℕ) (on : Setting) (turns : ℕ) (ss : List Segment) (b : Progress) (β : Buffers) (r : Result Counters Refusal) : Type 0 where
   pub out : StageOr x cr text segs on turns ss b β r
 
 -- some segments and some progress stand there, before the first turn
-pub record Begun (text : Text) (segs : List ℕ) (on : Setting) (β : Buffers) (r : Done) : Type 0 where
+pub record Begun (text : Text) (segs : List ℕ) (on : Setting) (β : Buffers) (c : Counters) : Type 0 where
   pub x : ℕ
   pub cr : Bool
   pub ss : List Segment
   pub progress : Progress
-  pub stands : Stands x cr text segs on 0 ss progress β r
+  pub stage : Stage x cr text segs on 0 ss progress β c
 
 -- what a run asks of its other buffers
 pub record Inputs (text : Text) (segs : List ℕ) (on : Setting) : Type 0 where
@@ -65,10 +63,6 @@ pub record TurnReady (text : Text) (segs : List ℕ) (on : Setting) (β : Buffer
   pub rows : c.rows ≤ 2 ^ 30
   pub report : c.report_len ≤ 2 ^ 46
 
-abbrev pub TurnReadyOr : Text → List ℕ → Setting → Buffers → Done → Type 0
-TurnReadyOr text segs on β (Going c) = TurnReady text segs on β c
-TurnReadyOr text segs on β (Stopped e) = Unit {0}
-
 -- the texts of n leaves fit into the store twice
 pub record RoomFor (n : ℕ) (cells : List ℕ) (store : Text) (c : Counters) : Type 0 where
   pub good : Good cells store n c.used
@@ -83,11 +77,3 @@ pub record MadeRoom (n : ℕ) (cells : List ℕ) (store bytes : Text) (c : Count
   pub size : r.size ≡ c.size
   pub known : r.known ≡ c.known
   pub known_used : r.known_used ≡ c.known_used
-
--- a turn was taken, unless the run was refused before it
-abbrev pub NextOr : (List Known → Pass) → Setting → Text → List ℕ → Buffers → Done → Buffers → Done → Type 0
-NextOr P on text segs β (Going c) β' r = TurnTaken P on segs text β c β' r
-NextOr P on text segs β (Stopped e) β' r = r ≡ Stopped e
-
-pub record NextIs (P : List Known → Pass) (on : Setting) (text : Text) (segs : List ℕ) (β : Buffers) (done : Done) (β' : Buffers) (r : Done) : Type 0 where
-  pub out : NextOr P on text segs β done β' r

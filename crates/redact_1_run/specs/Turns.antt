@@ -1,5 +1,5 @@
 -- The turns of a policy, one behind the other. Assumes nothing: these are definitions.
-use Rattle.std.specs.Prelude.{◌≡◌, cond, List, [], ◌∷◌, ◌++◌, map, ℕ, ◌<◌, eqb, ltb}
+use Rattle.std.specs.Prelude.{◌≡◌, cond, List, [], ◌∷◌, ◌++◌, map, ℕ, eqb}
 use Rattle.text.specs.Text.{Text}
 use Rattle.er7.specs.Path.{PathHeld}
 use Rattle.er7.specs.declared.separators.Separators.{Separators}
@@ -11,8 +11,6 @@ use Rattle.message_model.specs.Message.{Segment}
 use Rattle.policy_model.specs.Policy.{Policy}
 use Rattle.policy.specs.Line.{PostureHeld}
 use Rattle.run_model.specs.Redact.{Known, Progress, known_in, after_events, over_segments, segments_events, for_posture, for_sweep}
-use Rattle.redact_5_act.specs.declared.state.Done.{Done}
-use Rattle.redact_5_act.specs.declared.state.Done.TheVariants.{Going, Stopped}
 use Rattle.redact_4_leaf.specs.Walk.{Pass}
 use Rattle.redact_4_leaf.specs.Visit.{rule_pass, unnamed_pass}
 use Rattle.redact_2_turn.specs.Turn.{pass_of, TurnHeld}
@@ -61,15 +59,5 @@ pub record PostureTurn (posture : HeldPosture) (r : Turn) : Type 0 where
   pub pass : (key : ℕ) (s : Separators) (t : Text) (ks : List Known) → pass_of key s t ks r ≡ unnamed_pass key s (for_posture (as_posture t posture))
 
 -- a sweep with nothing known has nothing to do
-unfoldable pub turn_of_sweep : Done → Turn
-turn_of_sweep (Going c) = cond (eqb c.known 0) Idle Sweep
-turn_of_sweep (Stopped e) = Idle
-
--- turn k of a policy of `count` rules, of which `rule` is rule k
-pub record TurnIs (k count : ℕ) (rule : HeldRule) (posture : HeldPosture) (done : Done) (r : Turn) : Type 0 where
-  pub by_rule : k < count → RuleTurn rule r
-  pub by_posture : k ≡ count → PostureTurn posture r
-  pub by_sweep : count < k → r ≡ turn_of_sweep done
-
-unfoldable pub rule_row : ℕ → ℕ → ℕ
-rule_row k count = cond (ltb k count) k 0
+unfoldable pub turn_of_sweep : ℕ → Turn
+turn_of_sweep known = cond (eqb known 0) Idle Sweep

@@ -1,40 +1,35 @@
 // One message that was read, redacted: from its tables to its text and its report.
-ghost use Rattle.std.specs.Prelude.{◌≤◌, length};
-ghost use Rattle.text.specs.Text.{Text, Wrote};
+ghost use Rattle.std.specs.Prelude.{Ok};
+ghost use Rattle.text.specs.Text.{Text};
 ghost use Rattle.message_model.specs.Message.{Message};
 ghost use Rattle.policy.specs.Policy.{as_policy, PolicyHeld};
 ghost use Rattle.run_model.specs.Redact as R;
 ghost use Rattle.run_model.specs.Redact.{redact_from};
 ghost use Rattle.redact_1_run.specs.Ran.{Loaded, AnyLoaded, Printable, Ran, RedactedIs};
-ghost use Rattle.refusal.specs.Limits.{TEXT_MAX};
 
-use super::run::{Run, run_turns};
+use super::run::run_turns;
 use er7_message::message::Layout;
 use er7_render::render::render;
 use policy::policy::Policy;
 use redact_5_act::known::KNOWN_CELLS;
-use redact_5_act::state::{Counters, Done, Setting, saturating_sub};
+use redact_5_act::state::{Counters, Setting};
 use refusal::Refusal;
 use refusal::limits::LEAVES_MAX;
 use text::bytes::copy_at;
 
-// The lengths of the text and of the report, and how many rows it has; or a refusal.
+// The state of a run: which leaves are named, and how far it has come.
 #[derive(Clone, Copy)]
-pub enum Redacted {
-    Redacted {
-        text_len: usize,
-        report_len: usize,
-        rows: usize,
-    },
-    Refused(Refusal),
+struct Run {
+    named: [bool; LEAVES_MAX],
+    counters: Counters,
 }
 
-// Copies a message to the front of store, and returns its length.
-fn load(store: &mut [u8; 98304], message: &[u8]) -> usize
-    requires { length message.now ≤ TEXT_MAX }
-    ensures { Wrote store.old 0 message.now store.new result }
-{
-    copy_at(store, 0, message)
+// The lengths of the text and of the report, and how many rows it has.
+#[derive(Clone, Copy)]
+pub struct Redacted {
+    pub text_len: usize,
+    pub report_len: usize,
+    pub rows: usize,
 }
 
 // Writes the text of len bytes that the tables print as to the front of output, if it has room for it.
@@ -48,12 +43,12 @@ fn print_text(
     output: &mut [u8],
 ) -> Redacted
     requires { Printable layout segs.now cells.now store.now len }
-    ensures { (d : R.Redacted) (report : Text) → Ran d layout segs.now cells.now store.now report c → RedactedIs d output.old output.new report result }
+    ensures { (d : R.Redacted) (report : Text) → Ran d layout segs.now cells.now store.now report c → RedactedIs d output.old output.new report (Ok result) }
 {
     if len <= output.len() {
         render(segs, cells, store, layout, output);
     }
-    Redacted::Redacted {
+    Redacted {
         text_len: len,
         report_len: c.report_len,
         rows: c.rows,
@@ -73,43 +68,45 @@ pub fn redact_from(
     cells: &mut [usize],
     output: &mut [u8],
     report: &mut [u8],
-) -> Redacted
+) -> Result<Redacted, Refusal>
     requires { PolicyHeld text.now policy × AnyLoaded message.now text.now size layout segs.now cells.old }
     ensures { (m : Message) → Loaded message.now m text.now size layout segs.now cells.old → RedactedIs (redact_from size key (as_policy text.now policy) m) output.old output.new report.new result }
 {
     let mut store = [0u8; 98304];
     let mut bytes = [0u8; 65536];
     let mut known = [0usize; KNOWN_CELLS];
-    let used = load(&mut store, message);
-    let separators = layout.separators;
+    let used = copy_at(&mut store, 0, message);
     let on = Setting {
         key,
-        separators,
+        separators: layout.separators,
         sweep: policy.sweep,
         segments: layout.segments,
         leaves: layout.leaves,
     };
-    let start = Counters {
-        rows: 0,
-        report_len: 0,
-        size,
-        used,
-        known: 0,
-        known_used: 0,
-    };
-    let fresh = Run {
+    let mut run = Run {
         named: [false; LEAVES_MAX],
-        done: Done::Going(start),
+        counters: Counters {
+            rows: 0,
+            report_len: 0,
+            size,
+            used,
+            known: 0,
+            known_used: 0,
+        },
     };
-    let ran = run_turns(
-        fresh, on, policy, text, segs, cells, &mut store, report, &mut bytes, &mut known,
-    );
-    let done = ran.done;
-    match done {
-        Done::Going(c) => {
-            let len = saturating_sub(c.size + used, size);
-            print_text(layout, segs, cells, &store, len, c, output)
-        }
-        Done::Stopped(refusal) => Redacted::Refused(refusal),
-    }
+    run_turns(
+        on,
+        policy,
+        text,
+        segs,
+        &mut run.named,
+        cells,
+        &mut store,
+        report,
+        &mut bytes,
+        &mut known,
+        &mut run.counters,
+    )?;
+    let len = (run.counters.size + used).saturating_sub(size);
+    Ok(print_text(layout, segs, cells, &store, len, run.counters, output))
 }

@@ -1,12 +1,7 @@
 -- Laws of what a turn looks at. Assumes nothing.
-use mathlib.Core.Path.{◌≡◌, refl, sym, ap, ◌∙◌}
-use mathlib.Core.Bool.{Bool, true, false, not, cond, ◌&&◌, ◌||◌}
-use mathlib.Core.List.{List, [], ◌∷◌}
-use Prim.Native.Nat.{ℕ, ◌+◌, ◌≤◌}
-use native.Mathlib.Omega.{arith}
-use borrow.Author.Tests.{eqb-true, eqb-false}
-use lib.Dec.{eqb}
-use lib.ListN.{length, get_or}
+use Rattle.std.proofs.Common.{◌≡◌, refl, sym, ap, ◌∙◌, Bool, true, false, not, cond, ◌&&◌, ◌||◌, List, [], ◌∷◌, ℕ, ◌+◌, ◌≤◌, eqb, eqb-true, length, get_or, arith, Some, None}
+use Rattle.std.proofs.Common.{Option as Maybe}
+use Rattle.std.proofs.lemmas.Bool.{eqb-false}
 use Rattle.text.specs.Text.{Text, same, part}
 use Rattle.text.proofs.Laws.{and_false, and_id, and_left, and_right}
 use Rattle.text.proofs.Words.{same_longer}
@@ -22,26 +17,25 @@ use Rattle.run_model.specs.Redact.{fits, covers}
 use Rattle.er7_table.specs.Table.{cell, place_at, name_at, label_at}
 use Rattle.redact_6_row.specs.Reach.{reaches_place}
 use Rattle.redact_6_row.proofs.Reaches.{covers_steps}
-use Rattle.redact_2_turn.specs.Turn.{no_path, name_byte, aim_at, aim_unnamed, enters, is_touched, works}
-use Rattle.redact_2_turn.specs.declared.turn.Aim.{Aim}
+use Rattle.redact_2_turn.specs.Turn.{name_of, aim_at, enters, is_touched, looks_at, works}
+use Rattle.redact_2_turn.specs.declared.turn.Aim.TheVariants.{Reached, Unnamed}
 
 -- ---- a name of three bytes
 
-three_bytes : (t : Text) (i n : ℕ) → i + n ≤ length t → n ≡ 3 → part t i n ≡ get_or t (i + 0) 0 ∷ get_or t (i + 1) 0 ∷ get_or t (i + 2) 0 ∷ []
+three_bytes : (t : Text) (i n : ℕ) → i + n ≤ length t → n ≡ 3 → part t i n ≡ get_or t i 0 ∷ get_or t (i + 1) 0 ∷ get_or t (i + 2) 0 ∷ []
 unfolding part
 three_bytes t i n h e =
-    let none : i + 0 ≡ i = omega arith in
     let two : i + 1 + 1 ≡ i + 2 = omega arith in
-    rw (e, none, drop_step t i (omega arith), drop_step t (i + 1) (omega arith), drop_step t (i + 1 + 1) (omega arith), two)
+    rw (e, drop_step t i (omega arith), drop_step t (i + 1) (omega arith), drop_step t (i + 1 + 1) (omega arith), two)
 
 -- a rule's aim enters the segments into which its path reaches
 module _ (t : Text) (w : HeldPath) (h : PathHeld t w) (g : Label) {x y z : ℕ} (n : g.name ≡ x ∷ y ∷ z ∷ []) where
   pub aim_enters : enters (aim_at t w) g ≡ same (as_path t w).segment g.name && fits (as_path t w).occurrence g.occurrence
-  unfolding enters aim_at name_byte as_path
+  unfolding enters aim_at name_of as_path
   aim_enters = go (eqb w.segment_len 3) refl
     where
       go : (b : Bool) → eqb w.segment_len 3 ≡ b
-          → b && same (cond b (get_or t (w.segment + 0) 0) 0 ∷ cond b (get_or t (w.segment + 1) 0) 0 ∷ cond b (get_or t (w.segment + 2) 0) 0 ∷ []) g.name && fits w.segment_occurrence g.occurrence
+          → enters (Reached (cond b (Some (get_or t w.segment 0, get_or t (w.segment + 1) 0, get_or t (w.segment + 2) 0)) None) w) g
           ≡ same (part t w.segment w.segment_len) g.name && fits w.segment_occurrence g.occurrence
       go true e = sym (rw (three_bytes t w.segment w.segment_len h.inside (eqb-true w.segment_len 3 e)))
       go false e = sym (rw (same_longer (part t w.segment w.segment_len) g.name (λ q. eqb-false w.segment_len 3 e (sym (part_length t w.segment w.segment_len h.inside) ∙ q ∙ rw n))))
@@ -49,12 +43,16 @@ module _ (t : Text) (w : HeldPath) (h : PathHeld t w) (g : Label) {x y z : ℕ} 
 -- ---- the leaves of such a segment
 
 pub works_rule : (t : Text) (w : HeldPath) (g : Label) (named : Bool) (cells : List ℕ) (i : ℕ) → works (aim_at t w) g named cells i ≡ is_touched g cells i && reaches_place (as_path [] w) (place_at cells i)
-unfolding works aim_at
-works_rule t w g named cells i = and_id _ ∙ and_id _
+unfolding works aim_at looks_at
+works_rule t w g named cells i = refl
 
-pub works_unnamed : (every empty : Bool) (g : Label) (named : Bool) (cells : List ℕ) (i : ℕ) → works (aim_unnamed every empty) g named cells i ≡ is_touched g cells i && not named && (empty || not (eqb (cell cells i 2) 0))
-unfolding works aim_unnamed no_path reaches_place as_path fits
-works_unnamed every empty g named cells i = rw (and_id (is_touched g cells i))
+pub works_unnamed : (empty : Bool) (g : Label) (named : Bool) (cells : List ℕ) (i : ℕ) → works (Unnamed empty) g named cells i ≡ is_touched g cells i && not named && (empty || not (eqb (cell cells i 2) 0))
+unfolding works looks_at
+works_unnamed empty g named cells i = go (is_touched g cells i) (not named) (empty || not (eqb (cell cells i 2) 0))
+  where
+    go : (a b c : Bool) → a && (b && c) ≡ a && b && c
+    go true b c = refl
+    go false b c = refl
 
 -- a rule covers a leaf with which its aim has to do
 module _ (t : Text) (r : HeldRule) (g : Label) (p : Place) where
@@ -92,10 +90,10 @@ module _ (g : Label) (cells : List ℕ) (i : ℕ) where
   touched_place e = and_right (eqb (cell cells i 3) 0) (touchable g (place_at cells i)) e
 
 -- a segment of the table
-pub enters_is : (aim : Aim) (segs : List ℕ) (k : ℕ) {f : Bool} → f ≡ fits aim.path.segment_occurrence (cell segs k 5)
-    → aim.every || (aim.some && (eqb aim.a (cell segs k 2) && eqb aim.b (cell segs k 3) && eqb aim.c (cell segs k 4)) && f) ≡ enters aim (label_at segs k)
+pub enters_is : (n : ℕ × ℕ × ℕ) (w : HeldPath) (segs : List ℕ) (k : ℕ) {f : Bool} → f ≡ fits w.segment_occurrence (cell segs k 5)
+    → eqb n.0 (cell segs k 2) && eqb n.1 (cell segs k 3) && eqb n.2 (cell segs k 4) && f ≡ enters (Reached (Some n) w) (label_at segs k)
 unfolding enters label_at name_at same
-enters_is aim segs k {f} e = rw e (ap (λ b. aim.every || (aim.some && b && fits aim.path.segment_occurrence (cell segs k 5))) (go (eqb aim.a (cell segs k 2)) (eqb aim.b (cell segs k 3)) (eqb aim.c (cell segs k 4))))
+enters_is n w segs k {f} e = rw e (ap (λ b. b && fits w.segment_occurrence (cell segs k 5)) (go (eqb n.0 (cell segs k 2)) (eqb n.1 (cell segs k 3)) (eqb n.2 (cell segs k 4))))
   where
     go : (a b c : Bool) → a && b && c ≡ a && (b && (c && true))
     go true true c = sym (and_id c)
@@ -103,6 +101,6 @@ enters_is aim segs k {f} e = rw e (ap (λ b. aim.every || (aim.some && b && fits
     go false b c = refl
 
 -- a leaf of another field is not worked on
-pub works_elsewhere : (aim : Aim) (g : Label) (named : Bool) (cells : List ℕ) (i : ℕ) → fits aim.path.field (cell cells i 4) ≡ false → works aim g named cells i ≡ false
-unfolding works reaches_place place_at as_path
-works_elsewhere aim g named cells i e = rw (e, and_false (is_touched g cells i))
+pub works_elsewhere : (name : Maybe (ℕ × ℕ × ℕ)) (w : HeldPath) (g : Label) (named : Bool) (cells : List ℕ) (i : ℕ) → fits w.field (cell cells i 4) ≡ false → works (Reached name w) g named cells i ≡ false
+unfolding works looks_at reaches_place place_at as_path
+works_elsewhere name w g named cells i e = rw (e, and_false (is_touched g cells i))

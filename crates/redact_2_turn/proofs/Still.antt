@@ -23,7 +23,7 @@ use Rattle.redact_4_leaf.specs.Walk.{Pass}
 use Rattle.redact_4_leaf.specs.State.{text_in}
 use Rattle.redact_4_leaf.specs.Visit.{rule_pass, unnamed_pass}
 use Rattle.redact_4_leaf.proofs.Unnamed.{pick_none}
-use Rattle.redact_2_turn.specs.Turn.{pass_of, aim_at, aim_of, aim_unnamed, enters, is_touched, works, TurnHeld}
+use Rattle.redact_2_turn.specs.Turn.{pass_of, aim_at, aim_of, enters, is_touched, works, TurnHeld}
 use Rattle.redact_2_turn.specs.declared.turn.Turn.{Turn}
 use Rattle.redact_2_turn.specs.declared.turn.Turn.TheVariants.{Apply, Collapse, Reject, Sweep, Idle}
 use Rattle.redact_2_turn.proofs.Aims.{works_rule, works_unnamed, covers_not, covers_elsewhere}
@@ -122,11 +122,11 @@ module _ (key : ℕ) (s : Separators) (text : Text) (ks : List Known) (g : Label
   unfolding pass_of aim_of
   still_leaf (Apply r) e = still_rule r e
   still_leaf (Collapse r) e = still_rule r e
-  still_leaf (Reject a) e = still_unnamed (for_posture (reject (as_action text a))) (is_null_action (as_action text a) || not (eqb (cell cells i 2) 0)) (sym (works_unnamed true (is_null_action (as_action text a)) g (m i) cells i) ∙ e) (λ q.
+  still_leaf (Reject a) e = still_unnamed (for_posture (reject (as_action text a))) (is_null_action (as_action text a) || not (eqb (cell cells i 2) 0)) (sym (works_unnamed (is_null_action (as_action text a)) g (m i) cells i) ∙ e) (λ q.
       let w = neither (is_null_action (as_action text a)) (eqb (cell cells i 2) 0) q in
       left key s (for_posture (reject (as_action text a))) g (place_at cells i) (m i) (text_in cells store i) (as_action text a) xs (unfold for_posture in refl)
       (rw (empty_text cells store i w.1) (act_empty key s (as_action text a) w.0)))
-  still_leaf Sweep e = still_unnamed (for_sweep s ks) (not (eqb (cell cells i 2) 0)) (sym (works_unnamed true false g (m i) cells i) ∙ e) (λ q.
+  still_leaf Sweep e = still_unnamed (for_sweep s ks) (not (eqb (cell cells i 2) 0)) (sym (works_unnamed false g (m i) cells i) ∙ e) (λ q.
       unpicked key s (for_sweep s ks) g (place_at cells i) (m i) (some (text_in cells store i)) xs (λ t f.
       let z : text_in cells store i ≡ t = cc in rw (← z, empty_text cells store i (not-false (eqb (cell cells i 2) 0) q)) (sweep_empty s ks)))
   still_leaf Idle e = unfold leaf_at in unpicked key s (λ t. none) g (place_at cells i) (m i) (stored_text cells store i) xs (λ t f. refl)
@@ -138,6 +138,6 @@ module _ (key : ℕ) (s : Separators) (text : Text) (ks : List Known) (g : Label
   unfolding pass_of aim_of
   still_segment (Apply r) h e (leaf p b o) xs = uncovered key s (as_rule text r) g p b o xs (covers_elsewhere text r g p h.0 n e)
   still_segment (Collapse r) h e (leaf p b o) xs = uncovered key s (as_rule text r) g p b o xs (covers_elsewhere text r g p h.0 n e)
-  still_segment (Reject a) h e l xs = clash (unfold enters aim_unnamed in e)
-  still_segment Sweep h e l xs = clash (unfold enters aim_unnamed in e)
+  still_segment (Reject a) h e l xs = clash (unfold enters in e)
+  still_segment Sweep h e l xs = clash (unfold enters in e)
   still_segment Idle h e (leaf p b o) xs = unpicked key s (λ t. none) g p b o xs (λ t f. refl)

@@ -1,4 +1,5 @@
 -- Laws of a turn under way: over the leaves of a segment, and over segments. Assumes nothing.
+use Rattle.std.proofs.Common.{Result, Ok, Err}
 use mathlib.Core.Path.{◌≡◌, refl, sym, ap, ◌∙◌}
 use mathlib.Core.Bool.{Bool}
 use mathlib.Core.List.{List, [], ◌∷◌, append-nil}
@@ -16,8 +17,7 @@ use Rattle.er7_table.specs.Table.{list_of, first_leaf, label_at, as_label, Segme
 use Rattle.er7_table.proofs.Laws.{list_ext}
 use Rattle.redact_5_act.specs.declared.state.Setting.{Setting}
 use Rattle.redact_5_act.specs.declared.state.Counters.{Counters}
-use Rattle.redact_5_act.specs.declared.state.Done.{Done}
-use Rattle.redact_5_act.specs.declared.state.Done.TheVariants.{Going, Stopped}
+use Rattle.refusal.specs.declared.Refusal.{Refusal}
 use Rattle.redact_4_leaf.specs.Walk.{Pass, LeavesTo, SegmentDone, segment_of, SegmentsTo}
 use Rattle.redact_4_leaf.specs.State.{Buffers, leaves, knowing, RecordedIn, Held, Kept, RoomLeft}
 use Rattle.redact_4_leaf.specs.Visit.{said_of, Visited, VisitedOr, Visit}
@@ -123,11 +123,11 @@ module _ (P : List Known → Pass) (node : Bool) (on : Setting) (label : HeldLab
   passing_done {i} h w = let e : i ≡ end = omega (arith, w.high) in rw e at w
 
 -- by what a visit answered
-module _ {P : List Known → Pass} {node : Bool} {on : Setting} {at : Spot} {text : Text} {β : Buffers} {c : Counters} {β' : Buffers} {r : Done} (v : Visit P node on at text β c β' r) where
-  pub visit_going : {c' : Counters} → r ≡ Going c' → Visited P node on at text β c β' c'
+module _ {P : List Known → Pass} {node : Bool} {on : Setting} {at : Spot} {text : Text} {β : Buffers} {c : Counters} {β' : Buffers} {r : Result Counters Refusal} (v : Visit P node on at text β c β' r) where
+  pub visit_going : {c' : Counters} → r ≡ Ok c' → Visited P node on at text β c β' c'
   visit_going e = (rw e at v).out
 
-  pub visit_stopped : {x : Refusal} → r ≡ Stopped x → VisitedOr P node on at text β c β' (Stopped x)
+  pub visit_stopped : {x : Refusal} → r ≡ Err x → VisitedOr P node on at text β c β' (Err x)
   visit_stopped e = (rw e at v).out
 
 -- ---- segments
@@ -268,9 +268,9 @@ module _ (P : List Known → Pass) (node : Bool) (on : Setting) (segs : List ℕ
       }
 
 -- by what a segment answered
-module _ {P : List Known → Pass} {node : Bool} {on : Setting} {at : Spot} {text : Text} {β : Buffers} {c : Counters} {β' : Buffers} {r : Done} (v : LeavesPassed P node on at text β c β' r) where
-  pub passed_going : {c' : Counters} → r ≡ Going c' → Passing P node on (as_label at.label) at.index at.end at.end text β c β' c'
+module _ {P : List Known → Pass} {node : Bool} {on : Setting} {at : Spot} {text : Text} {β : Buffers} {c : Counters} {β' : Buffers} {r : Result Counters Refusal} (v : LeavesPassed P node on at text β c β' r) where
+  pub passed_going : {c' : Counters} → r ≡ Ok c' → Passing P node on (as_label at.label) at.index at.end at.end text β c β' c'
   passed_going e = (rw e at v).out
 
-  pub passed_stopped : {x : Refusal} → r ≡ Stopped x → PassedOr P node on (as_label at.label) at.index at.end text β c β' (Stopped x)
+  pub passed_stopped : {x : Refusal} → r ≡ Err x → PassedOr P node on (as_label at.label) at.index at.end text β c β' (Err x)
   passed_stopped e = (rw e at v).out

@@ -1,4 +1,5 @@
 -- Laws of a turn's visits: what each asks for, what it answers, and the loops over leaves and segments. Assumes nothing.
+use Rattle.std.proofs.Common.{Result, Ok, Err}
 use mathlib.Core.Path.{◌≡◌, refl, sym, ap, subst, ◌∙◌}
 use mathlib.Core.Bool.{Bool, true, false, not, ◌&&◌, ◌||◌}
 use mathlib.Core.List.{List, []}
@@ -12,7 +13,6 @@ use Rattle.text.proofs.Kept.{same_all}
 use Rattle.refusal.specs.declared.Refusal.{Refusal}
 use Rattle.refusal.specs.Limits.{INPUT_MAX, LEAVES_MAX}
 use Rattle.er7.specs.Path.{as_path, PathHeld}
-use Rattle.er7.specs.declared.message.Label.{Label as HeldLabel}
 use Rattle.er7_redact.specs.Action.{as_action, is_null_action, ActionHeld}
 use Rattle.er7_redact.specs.Policy.{as_rule, reject}
 use Rattle.er7_redact.specs.declared.action.Action.{Action as HeldAction}
@@ -22,38 +22,35 @@ use Rattle.run_model.specs.Redact.{act, row, covers, reach, each_leaf, is_node, 
 use Rattle.er7_table.specs.Table.{cell, place_at, name_at, label_at, as_label, Segmented}
 use Rattle.redact_6_row.specs.Reach.{reaches_place}
 use Rattle.redact_5_act.specs.declared.state.Counters.{Counters}
-use Rattle.redact_5_act.specs.declared.state.Done.{Done}
-use Rattle.redact_5_act.specs.declared.state.Done.TheVariants.{Going, Stopped}
+use Rattle.refusal.specs.declared.Refusal.{Refusal}
 use Rattle.redact_4_leaf.specs.State.{Buffers, buffers, leaves, marked, text_in, knowing, KnownHeld, Ready, NodeReady, ActedOn}
 use Rattle.redact_4_leaf.specs.Visit.{rule_pass, unnamed_pass, Visit}
 use Rattle.redact_4_leaf.specs.declared.leaf.Spot.{Spot}
 use Rattle.redact_4_leaf.proofs.Unnamed.{unnamed_acted}
-use Rattle.redact_2_turn.specs.Turn.{pass_of, pass_by, by_node, aim_at, aim_of, aim_unnamed, enters, is_touched, works, TurnHeld, JobHeld}
-use Rattle.redact_2_turn.specs.Ordered.{Rising, AllOrdered, StartAt, Skipped, SegmentsSkipped, SpotIs}
+use Rattle.redact_2_turn.specs.Turn.{pass_of, pass_by, by_node, aim_at, aim_of, field_of, enters, is_touched, looks_at, works, TurnHeld, JobHeld}
+use Rattle.redact_2_turn.specs.Ordered.{AllOrdered, StartAt, is_behind, SpotIs}
 use Rattle.redact_2_turn.specs.Taken.{Ahead, Visitable, Passable, Passing, LeavesPassed, Turning, TurnTaken}
 use Rattle.redact_2_turn.specs.declared.turn.Turn.{Turn}
 use Rattle.redact_2_turn.specs.declared.turn.Turn.TheVariants.{Apply, Collapse, Reject, Sweep, Idle}
 use Rattle.redact_2_turn.specs.declared.turn.Aim.{Aim}
+use Rattle.redact_2_turn.specs.declared.turn.Aim.TheVariants.{Unnamed}
 use Rattle.redact_2_turn.specs.declared.turn.Job.{Job}
 use Rattle.redact_2_turn.proofs.Aims.{works_rule, works_unnamed, covers_here, touched_live, touched_place}
 use Rattle.redact_2_turn.proofs.Still.{Still, still_leaf, still_segment}
 use Rattle.redact_2_turn.proofs.Funds.{room_left_ready, room_left_node}
 use Rattle.redact_2_turn.proofs.Turns.{spot, passing_start, passing_more, passing_stop, passing_still, passing_done, visit_going, visit_stopped, turning_start, segment_low, segment_high, turning_more, turning_stop, turning_still, turning_done, passed_going, passed_stopped}
-use Rattle.redact_2_turn.proofs.Idle.{started, ahead_rising, ordered_as}
+use Rattle.redact_2_turn.proofs.Idle.{idle_before, idle_behind, ahead_rising, ordered_as}
 
 -- ---- a leaf with which an aim has to do
 
 pub works_touched : (aim : Aim) (g : Label) (named : Bool) (cells : List ℕ) (i : ℕ) → works aim g named cells i ≡ true → is_touched g cells i ≡ true
 unfolding works
-works_touched aim g named cells i e =
-    let a = and_left (is_touched g cells i && reaches_place (as_path [] aim.path) (place_at cells i) && not (aim.unnamed && named)) (aim.empty || not (eqb (cell cells i 2) 0)) e in
-    let b = and_left (is_touched g cells i && reaches_place (as_path [] aim.path) (place_at cells i)) (not (aim.unnamed && named)) a in
-    and_left (is_touched g cells i) (reaches_place (as_path [] aim.path) (place_at cells i)) b
+works_touched aim g named cells i e = and_left (is_touched g cells i) (looks_at aim named cells i) e
 
-works_unnamed_leaf : (every empty : Bool) (g : Label) (named : Bool) (cells : List ℕ) (i : ℕ) → works (aim_unnamed every empty) g named cells i ≡ true → is_unnamed g (place_at cells i) named ≡ true
+works_unnamed_leaf : (empty : Bool) (g : Label) (named : Bool) (cells : List ℕ) (i : ℕ) → works (Unnamed empty) g named cells i ≡ true → is_unnamed g (place_at cells i) named ≡ true
 unfolding is_unnamed
-works_unnamed_leaf every empty g named cells i e =
-    let a = sym (works_unnamed every empty g named cells i) ∙ e in
+works_unnamed_leaf empty g named cells i e =
+    let a = sym (works_unnamed empty g named cells i) ∙ e in
     let b = and_left (is_touched g cells i && not named) (empty || not (eqb (cell cells i 2) 0)) a in
     rw (touched_place g cells i (and_left (is_touched g cells i) (not named) b), and_right (is_touched g cells i) (not named) b)
 
@@ -117,14 +114,14 @@ module _ {text : Text} {job : Job} (h : JobHeld text job) {at : Spot} {β : Buff
   -- a leaf that no rule named
   pub reject_unnamed : {a : HeldAction} → job.turn ≡ Reject a → is_unnamed (as_label at.label) (place_at β.cells at.index) (marked β.named at.index) ≡ true
   unfolding aim_of
-  reject_unnamed {a} e = works_unnamed_leaf true (is_null_action (as_action text a)) (as_label at.label) (marked β.named at.index) β.cells at.index (worked e)
+  reject_unnamed {a} e = works_unnamed_leaf (is_null_action (as_action text a)) (as_label at.label) (marked β.named at.index) β.cells at.index (worked e)
 
   pub sweep_unnamed : job.turn ≡ Sweep → is_unnamed (as_label at.label) (place_at β.cells at.index) (marked β.named at.index) ≡ true
   unfolding aim_of
-  sweep_unnamed e = works_unnamed_leaf true false (as_label at.label) (marked β.named at.index) β.cells at.index (worked e)
+  sweep_unnamed e = works_unnamed_leaf false (as_label at.label) (marked β.named at.index) β.cells at.index (worked e)
 
   -- what each visit answers, of the turn's pass
-  pub rejected : {a : HeldAction} → job.turn ≡ Reject a → {cells' : List ℕ} {store' report' bytes' : Text} (r : Done)
+  pub rejected : {a : HeldAction} → job.turn ≡ Reject a → {cells' : List ℕ} {store' report' bytes' : Text} (r : Result Counters Refusal)
       → ActedOn (act job.on.key job.on.separators (as_action text a) (text_in β.cells β.store at.index)) (row (as_label at.label) (place_at β.cells at.index) (as_action text a)) job.on.leaves at.index β.cells β.store β.report β.bytes c cells' store' report' bytes' r
       → Visit (pass_by text job) (by_node job.turn) job.on at text β c (buffers β.named cells' store' report' bytes' β.known) r
   unfolding pass_by pass_of by_node
@@ -132,10 +129,10 @@ module _ {text : Text} {job : Job} (h : JobHeld text job) {at : Spot} {β : Buff
       rw e (unnamed_acted job.on at text β.named β.cells β.store β.report β.bytes β.known c (λ ks. for_posture (reject (as_action text a))) (ready e refl) v.ahead.held.marks v.ahead.held.known (as_action text a) (reject_unnamed e) (unfold for_posture in refl) same_all r d)
 
   pub never_idle : {X : Type 0} → job.turn ≡ Idle → X
-  unfolding aim_of aim_unnamed enters
+  unfolding aim_of enters
   never_idle e = clash (sym (entered e))
 
-module _ {text : Text} (job : Job) {at : Spot} {β : Buffers} {c : Counters} {β' : Buffers} {r : Done} where
+module _ {text : Text} (job : Job) {at : Spot} {β : Buffers} {c : Counters} {β' : Buffers} {r : Result Counters Refusal} where
   pub applied : {rule : HeldRule} → job.turn ≡ Apply rule → Visit (λ ks. rule_pass job.on.key job.on.separators (as_rule text rule)) false job.on at text β c β' r → Visit (pass_by text job) (by_node job.turn) job.on at text β c β' r
   unfolding pass_by pass_of by_node
   applied e v = rw e v
@@ -150,118 +147,91 @@ module _ {text : Text} (job : Job) {at : Spot} {β : Buffers} {c : Counters} {β
 
 -- ---- the leaves of a segment
 
--- the leaves before index i are visited or passed by, and with leaf i the turn has to do
-pub record Standing (text : Text) (job : Job) (at : Spot) (i : ℕ) (β₀ : Buffers) (c₀ : Counters) (β : Buffers) (c : Counters) : Type 0 where
-  pub passing : Passing (pass_by text job) (by_node job.turn) job.on (as_label at.label) at.index at.end i text β₀ c₀ β c
-  pub here : i < at.end → works job.aim (as_label at.label) (marked β.named i) β.cells i ≡ true
-
--- .. in the variables of the loop
-pub record LeafLoop (text : Text) (job : Job) (at : Spot) (aim : Aim) (g : HeldLabel) (i : ℕ) (β₀ : Buffers) (c₀ : Counters) (β : Buffers) (c : Counters) : Type 0 where
-  pub standing : Standing text job at i β₀ c₀ β c
-  pub aim_is : aim ≡ job.aim
-  pub label_is : g ≡ at.label
-
 module _ {text : Text} {job : Job} (h : JobHeld text job) (at : Spot) (β₀ : Buffers) (c₀ : Counters) (p : Passable job at β₀.cells) where
+  -- the leaves before index i are visited or passed by
+  abbrev pub Before : ℕ → Buffers → Counters → Type 0
+  Before i β c = Passing (pass_by text job) (by_node job.turn) job.on (as_label at.label) at.index at.end i text β₀ c₀ β c
+
   still_here : (β : Buffers) (c : Counters) (j : ℕ) (xs : List Leaf) → works job.aim (as_label at.label) (marked β.named j) β.cells j ≡ false → Still (pass_by text job (knowing text β c)) (as_label at.label) (leaves β j) xs
   unfolding pass_by
   still_here β c j xs e = still_leaf job.on.key job.on.separators text (knowing text β c) (as_label at.label) (marked β.named) β.cells β.store j xs job.turn (rw h.aim at e)
 
-  skipped_to : {i r : ℕ} {β : Buffers} {c : Counters} → Skipped job.aim (as_label at.label) β.named β.cells i at.end r
-      → Passing (pass_by text job) (by_node job.turn) job.on (as_label at.label) at.index at.end i text β₀ c₀ β c → Standing text job at r β₀ c₀ β c
-  skipped_to {β = β} {c = c} s w = record {
-    passing = passing_still (pass_by text job) (by_node job.turn) job.on at.label at.index at.end text β₀ c₀ p.ends s.low s.high (λ j a b. still_here β c j _ (s.idle j a b)) w;
-    here = s.here;
-  }
+  passed_by : {i r : ℕ} {β : Buffers} {c : Counters} → i ≤ r → r ≤ at.end → ((j : ℕ) → i ≤ j → j < r → works job.aim (as_label at.label) (marked β.named j) β.cells j ≡ false) → Before i β c → Before r β c
+  passed_by {β = β} {c = c} l m f w = passing_still (pass_by text job) (by_node job.turn) job.on at.label at.index at.end text β₀ c₀ p.ends l m (λ j a b. still_here β c j _ (f j a b)) w
 
-  pub skip_first : Ahead text job at.index β₀ c₀ → {s : ℕ} → StartAt job.aim.path.field at.index at.end s
-      → (s ≤ at.end) × (at.end * 8 ≤ length β₀.cells) × (at.end ≤ LEAVES_MAX) × Rising β₀.cells s at.end
-  skip_first a t =
-      (t.high, omega (arith, p.ends, a.held.good.rows), omega (arith, p.ends, a.held.marks), ahead_rising β₀ β₀ t.low (λ j x y. refl) p.ordered)
+  pub before_first : Ahead text job at.index β₀ c₀ → {r : ℕ} → StartAt (field_of job.aim) at.index at.end r → Before r β₀ c₀
+  before_first a t =
+      passed_by t.low t.high (idle_before job.aim (as_label at.label) β₀.named β₀.cells p.ordered t)
+      (passing_start (pass_by text job) (by_node job.turn) job.on at.label at.index at.end text β₀ c₀ p.order a.held a.room_left)
 
-  pub standing_start : Ahead text job at.index β₀ c₀ → {s i : ℕ} → StartAt job.aim.path.field at.index at.end s → Skipped job.aim (as_label at.label) β₀.named β₀.cells s at.end i → Standing text job at i β₀ c₀ β₀ c₀
-  standing_start a t k =
-      let d = started job.aim (as_label at.label) β₀.named β₀.cells p.ordered t in
-      skipped_to k (passing_still (pass_by text job) (by_node job.turn) job.on at.label at.index at.end text β₀ c₀ p.ends d.low d.high (λ j x y. still_here β₀ c₀ j _ (d.idle j x y))
-      (passing_start (pass_by text job) (by_node job.turn) job.on at.label at.index at.end text β₀ c₀ p.order a.held a.room_left))
+  module _ {i : ℕ} {β : Buffers} {c : Counters} (w : Before i β c) (l : i < at.end) where
+    -- leaf i lies in the tables
+    pub before_inside : (i * 8 + 8 ≤ length β.cells) × (i < LEAVES_MAX)
+    before_inside = (omega (arith, p.ends, w.held.good.rows), omega (arith, p.ends, w.held.marks))
 
-  module _ {i : ℕ} {β : Buffers} {c : Counters} (w : Standing text job at i β₀ c₀ β c) (l : i < at.end) where
-    pub standing_visitable : Visitable text job (spot at.label at.end i) β c
-    standing_visitable = record { enters = p.enters; works = w.here l; inside = l; ends = p.ends; ahead = record { held = w.passing.held; room_left = w.passing.room_left } }
+    pub before_visitable : works job.aim (as_label at.label) (marked β.named i) β.cells i ≡ true → Visitable text job (spot at.label at.end i) β c
+    before_visitable e = record { enters = p.enters; works = e; inside = l; ends = p.ends; ahead = record { held = w.held; room_left = w.room_left } }
 
-    pub standing_rising : {β' : Buffers} {r : Done} {c' : Counters} → Visit (pass_by text job) (by_node job.turn) job.on (spot at.label at.end i) text β c β' r → r ≡ Going c' → Rising β'.cells (i + 1) at.end
-    standing_rising {β'} v e =
-        let q = passing_more (pass_by text job) (by_node job.turn) job.on at.label at.index at.end text β₀ c₀ p.ends w.passing l (visit_going v e) in
-        ahead_rising β₀ β' q.low (λ j a b. q.ahead j a (omega (arith, p.ends))) p.ordered
+    pub before_visited : {β' : Buffers} {r : Result Counters Refusal} {c' : Counters} → Visit (pass_by text job) (by_node job.turn) job.on (spot at.label at.end i) text β c β' r → r ≡ Ok c' → Before (i + 1) β' c'
+    before_visited v e = passing_more (pass_by text job) (by_node job.turn) job.on at.label at.index at.end text β₀ c₀ p.ends w l (visit_going v e)
 
-    pub skip_next : {β' : Buffers} {r : Done} {c' : Counters} → Visit (pass_by text job) (by_node job.turn) job.on (spot at.label at.end i) text β c β' r → r ≡ Going c'
-        → (i + 1 ≤ at.end) × (at.end * 8 ≤ length β'.cells) × (at.end ≤ LEAVES_MAX) × Rising β'.cells (i + 1) at.end
-    skip_next v e =
-        let d = (visit_going v e).held in
-        (omega arith, omega (arith, p.ends, d.good.rows), omega (arith, p.ends, d.marks), standing_rising v e)
+    pub before_passed : works job.aim (as_label at.label) (marked β.named i) β.cells i ≡ false → Before (i + 1) β c
+    before_passed e = passed_by (omega arith) (omega arith) (λ j a b. let q : j ≡ i = omega arith in rw q e) w
 
-    pub standing_more : {β' : Buffers} {r : Done} {c' : Counters} → Visit (pass_by text job) (by_node job.turn) job.on (spot at.label at.end i) text β c β' r → r ≡ Going c'
-        → {j : ℕ} → Skipped job.aim (as_label at.label) β'.named β'.cells (i + 1) at.end j → Standing text job at j β₀ c₀ β' c'
-    standing_more v e k = skipped_to k (passing_more (pass_by text job) (by_node job.turn) job.on at.label at.index at.end text β₀ c₀ p.ends w.passing l (visit_going v e))
+    pub before_stop : {β' : Buffers} {r : Result Counters Refusal} {x : Refusal} → Visit (pass_by text job) (by_node job.turn) job.on (spot at.label at.end i) text β c β' r → r ≡ Err x
+        → LeavesPassed (pass_by text job) (by_node job.turn) job.on at text β₀ c₀ β' (Err x)
+    before_stop v e = record { out = passing_stop (pass_by text job) (by_node job.turn) job.on at.label at.index at.end text β₀ c₀ p.ends w l (visit_stopped v e) }
 
-    pub standing_stop : {β' : Buffers} {r : Done} {x : Refusal} → Visit (pass_by text job) (by_node job.turn) job.on (spot at.label at.end i) text β c β' r → r ≡ Stopped x
-        → LeavesPassed (pass_by text job) (by_node job.turn) job.on at text β₀ c₀ β' (Stopped x)
-    standing_stop v e = record { out = passing_stop (pass_by text job) (by_node job.turn) job.on at.label at.index at.end text β₀ c₀ p.ends w.passing l (visit_stopped v e) }
+    -- leaf i is of a later field
+    pub before_behind : is_behind (field_of job.aim) β.cells i ≡ true → LeavesPassed (pass_by text job) (by_node job.turn) job.on at text β₀ c₀ β (Ok c)
+    before_behind e =
+        let u = ahead_rising β₀ β w.low (λ j a b. w.ahead j a (omega (arith, p.ends))) p.ordered in
+        record { out = passed_by (omega arith) (omega arith) (idle_behind job.aim (as_label at.label) β.named β.cells u l e) w }
 
-  pub standing_end : {i : ℕ} {β : Buffers} {c : Counters} → Standing text job at i β₀ c₀ β c → at.end ≤ i → LeavesPassed (pass_by text job) (by_node job.turn) job.on at text β₀ c₀ β (Going c)
-  standing_end w l = record { out = passing_done (pass_by text job) (by_node job.turn) job.on at.label at.index at.end text β₀ c₀ l w.passing }
+  pub before_end : {i : ℕ} {β : Buffers} {c : Counters} → Before i β c → at.end ≤ i → LeavesPassed (pass_by text job) (by_node job.turn) job.on at text β₀ c₀ β (Ok c)
+  before_end w l = record { out = passing_done (pass_by text job) (by_node job.turn) job.on at.label at.index at.end text β₀ c₀ l w }
 
 -- ---- all segments
 
--- those before segment k are passed, and the turn enters segment k
-pub record Coming (text : Text) (job : Job) (segs : List ℕ) (k : ℕ) (β₀ : Buffers) (c₀ : Counters) (β : Buffers) (c : Counters) : Type 0 where
-  pub turning : Turning (pass_by text job) (by_node job.turn) job.on segs k text β₀ c₀ β c
-  pub here : k < job.on.segments → enters job.aim (label_at segs k) ≡ true
-
--- .. in the variables of the loop
-pub record SegmentLoop (text : Text) (job : Job) (segs : List ℕ) (aim : Aim) (m k : ℕ) (β₀ : Buffers) (c₀ : Counters) (β : Buffers) (c : Counters) : Type 0 where
-  pub coming : Coming text job segs k β₀ c₀ β c
-  pub aim_is : aim ≡ job.aim
-  pub segments_are : m ≡ job.on.segments
-
 module _ {text : Text} {job : Job} (h : JobHeld text job) (segs : List ℕ) (z : Segmented segs job.on.segments job.on.leaves) (β₀ : Buffers) (c₀ : Counters) where
-  still_there : (β : Buffers) (c : Counters) (j : ℕ) → enters job.aim (label_at segs j) ≡ false → (x : Leaf) (xs : List Leaf) → Still (pass_by text job (knowing text β c)) (label_at segs j) x xs
-  unfolding pass_by label_at name_at
-  still_there β c j e = still_segment job.on.key job.on.separators text (knowing text β c) (label_at segs j) refl job.turn h.held (rw h.aim at e)
+  -- those before segment k are passed
+  abbrev pub Through : ℕ → Buffers → Counters → Type 0
+  Through k β c = Turning (pass_by text job) (by_node job.turn) job.on segs k text β₀ c₀ β c
 
-  coming_to : {k r : ℕ} {β : Buffers} {c : Counters} → SegmentsSkipped job.aim segs k job.on.segments r → Turning (pass_by text job) (by_node job.turn) job.on segs k text β₀ c₀ β c → Coming text job segs r β₀ c₀ β c
-  coming_to {β = β} {c = c} s w = record {
-    turning = turning_still (pass_by text job) (by_node job.turn) job.on segs text z β₀ c₀ s.low s.high (λ j a b. still_there β c j (s.idle j a b)) w;
-    here = s.here;
-  }
+  pub through_none : Ahead text job 0 β₀ c₀ → Through 0 β₀ c₀
+  through_none a = turning_start (pass_by text job) (by_node job.turn) job.on segs text z β₀ c₀ a.held a.room_left
 
-  pub coming_start : Ahead text job 0 β₀ c₀ → {k : ℕ} → SegmentsSkipped job.aim segs 0 job.on.segments k → Coming text job segs k β₀ c₀ β₀ c₀
-  coming_start a s = coming_to s (turning_start (pass_by text job) (by_node job.turn) job.on segs text z β₀ c₀ a.held a.room_left)
+  module _ {k : ℕ} {β : Buffers} {c : Counters} (w : Through k β c) (l : k < job.on.segments) where
+    pub through_passed : enters job.aim (label_at segs k) ≡ false → Through (k + 1) β c
+    unfolding pass_by label_at name_at
+    through_passed e =
+        turning_still (pass_by text job) (by_node job.turn) job.on segs text z β₀ c₀ (omega arith) (omega arith)
+        (λ j a b x xs. let q : j ≡ k = omega arith in rw q (still_segment job.on.key job.on.separators text (knowing text β c) (label_at segs k) refl job.turn h.held (rw h.aim at e) x xs)) w
 
-  module _ {k : ℕ} {β : Buffers} {c : Counters} (w : Coming text job segs k β₀ c₀ β c) (l : k < job.on.segments) {at : Spot} (q : SpotIs segs k at) where
-    pub coming_passable : AllOrdered segs β₀.cells job.on.segments → Passable job at β.cells
-    coming_passable o =
-        let low = segment_low (pass_by text job) (by_node job.turn) job.on segs text z β₀ c₀ w.turning l in
-        let high = segment_high (pass_by text job) (by_node job.turn) job.on segs text z β₀ c₀ w.turning l in
-        record {
-          enters = rw q.label (w.here l);
-          order = rw (q.first, q.end) low;
-          ends = rw q.end high;
-          ordered = rw (q.first, q.end) (ordered_as β₀ β (λ j x y. w.turning.ahead j x (omega (arith, high))) (o.ordered k l));
-        }
+    module _ {at : Spot} (q : SpotIs segs k at) where
+      pub through_passable : enters job.aim (label_at segs k) ≡ true → AllOrdered segs β₀.cells job.on.segments → Passable job at β.cells
+      through_passable e o =
+          let low = segment_low (pass_by text job) (by_node job.turn) job.on segs text z β₀ c₀ w l in
+          let high = segment_high (pass_by text job) (by_node job.turn) job.on segs text z β₀ c₀ w l in
+          record {
+            enters = rw q.label e;
+            order = rw (q.first, q.end) low;
+            ends = rw q.end high;
+            ordered = rw (q.first, q.end) (ordered_as β₀ β (λ j x y. w.ahead j x (omega (arith, high))) (o.ordered k l));
+          }
 
-    pub coming_ahead : Ahead text job at.index β c
-    coming_ahead = record { held = w.turning.held; room_left = rw q.first w.turning.room_left }
+      pub through_ahead : Ahead text job at.index β c
+      through_ahead = record { held = w.held; room_left = rw q.first w.room_left }
 
-    pub coming_more : {β' : Buffers} {r : Done} {c' : Counters} → LeavesPassed (pass_by text job) (by_node job.turn) job.on at text β c β' r → r ≡ Going c'
-        → {j : ℕ} → SegmentsSkipped job.aim segs (k + 1) job.on.segments j → Coming text job segs j β₀ c₀ β' c'
-    coming_more v e s =
-        let u = rw (q.label, q.first, q.end) at (passed_going v e) in
-        coming_to s (turning_more (pass_by text job) (by_node job.turn) job.on segs text z β₀ c₀ w.turning l u)
+      pub through_more : {β' : Buffers} {r : Result Counters Refusal} {c' : Counters} → LeavesPassed (pass_by text job) (by_node job.turn) job.on at text β c β' r → r ≡ Ok c' → Through (k + 1) β' c'
+      through_more v e =
+          let u = rw (q.label, q.first, q.end) at (passed_going v e) in
+          turning_more (pass_by text job) (by_node job.turn) job.on segs text z β₀ c₀ w l u
 
-    pub coming_stop : {β' : Buffers} {r : Done} {x : Refusal} → LeavesPassed (pass_by text job) (by_node job.turn) job.on at text β c β' r → r ≡ Stopped x → TurnTaken (pass_by text job) job.on segs text β₀ c₀ β' (Stopped x)
-    coming_stop v e =
-        let u = rw (q.label, q.first, q.end) at (passed_stopped v e) in
-        record { out = turning_stop (pass_by text job) (by_node job.turn) job.on segs text z β₀ c₀ w.turning l u }
+      pub through_stop : {β' : Buffers} {r : Result Counters Refusal} {x : Refusal} → LeavesPassed (pass_by text job) (by_node job.turn) job.on at text β c β' r → r ≡ Err x → TurnTaken (pass_by text job) job.on segs text β₀ c₀ β' (Err x)
+      through_stop v e =
+          let u = rw (q.label, q.first, q.end) at (passed_stopped v e) in
+          record { out = turning_stop (pass_by text job) (by_node job.turn) job.on segs text z β₀ c₀ w l u }
 
-  pub coming_end : {k : ℕ} {β : Buffers} {c : Counters} → Coming text job segs k β₀ c₀ β c → job.on.segments ≤ k → TurnTaken (pass_by text job) job.on segs text β₀ c₀ β (Going c)
-  coming_end w l = record { out = turning_done (pass_by text job) (by_node job.turn) job.on segs text z β₀ c₀ l w.turning }
+  pub through_all : {k : ℕ} {β : Buffers} {c : Counters} → Through k β c → job.on.segments ≤ k → TurnTaken (pass_by text job) job.on segs text β₀ c₀ β (Ok c)
+  through_all w l = record { out = turning_done (pass_by text job) (by_node job.turn) job.on segs text z β₀ c₀ l w }

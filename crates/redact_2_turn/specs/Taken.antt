@@ -1,13 +1,12 @@
 -- How far a turn has come. Assumes nothing: these are definitions.
-use Rattle.std.specs.Prelude.{◌≡◌, Bool, true, List, ℕ, ◌+◌, ◌-◌, ◌*◌, ◌≤◌, ◌<◌}
+use Rattle.std.specs.Prelude.{◌≡◌, Bool, true, List, ℕ, ◌+◌, ◌-◌, ◌*◌, ◌≤◌, ◌<◌, Result, Ok, Err}
 use Rattle.text.specs.Text.{Text}
 use Rattle.message_model.specs.Message.{Label}
 use Rattle.run_model.specs.Redact.{Known, Progress, stopped, after_events, leaves_events, segments_events}
 use Rattle.er7_table.specs.Table.{list_of, first_leaf, label_at, as_label}
 use Rattle.redact_5_act.specs.declared.state.Setting.{Setting}
 use Rattle.redact_5_act.specs.declared.state.Counters.{Counters}
-use Rattle.redact_5_act.specs.declared.state.Done.{Done}
-use Rattle.redact_5_act.specs.declared.state.Done.TheVariants.{Going, Stopped}
+use Rattle.refusal.specs.declared.Refusal.{Refusal}
 use Rattle.redact_4_leaf.specs.Walk.{Pass, LeavesTo, segment_of, SegmentsTo, AllDone}
 use Rattle.redact_4_leaf.specs.State.{Buffers, leaves, knowing, marked, RecordedIn, Held, Kept, RoomLeft}
 use Rattle.redact_4_leaf.specs.declared.leaf.Spot.{Spot}
@@ -64,12 +63,12 @@ pub record Passing (P : List Known → Pass) (node : Bool) (on : Setting) (g : L
   pub pass : P (knowing text β c) ≡ P (knowing text β₀ c₀)
 
 -- all of them, or the run was refused
-abbrev pub PassedOr : (List Known → Pass) → Bool → Setting → Label → ℕ → ℕ → Text → Buffers → Counters → Buffers → Done → Type 0
-PassedOr P node on g first end text β₀ c₀ β (Going c) = Passing P node on g first end end text β₀ c₀ β c
-PassedOr P node on g first end text β₀ c₀ β (Stopped e) =
+abbrev pub PassedOr : (List Known → Pass) → Bool → Setting → Label → ℕ → ℕ → Text → Buffers → Counters → Buffers → Result Counters Refusal → Type 0
+PassedOr P node on g first end text β₀ c₀ β (Ok c) = Passing P node on g first end end text β₀ c₀ β c
+PassedOr P node on g first end text β₀ c₀ β (Err e) =
     (b : Progress) → RecordedIn text β₀ c₀ b → after_events on.sweep (leaves_events (P (knowing text β₀ c₀)).says g (list_of (leaves β₀) first (end - first))) b ≡ stopped e
 
-pub record LeavesPassed (P : List Known → Pass) (node : Bool) (on : Setting) (at : Spot) (text : Text) (β₀ : Buffers) (c₀ : Counters) (β : Buffers) (r : Done) : Type 0 where
+pub record LeavesPassed (P : List Known → Pass) (node : Bool) (on : Setting) (at : Spot) (text : Text) (β₀ : Buffers) (c₀ : Counters) (β : Buffers) (r : Result Counters Refusal) : Type 0 where
   pub out : PassedOr P node on (as_label at.label) at.index at.end text β₀ c₀ β r
 
 -- ---- all segments
@@ -103,11 +102,11 @@ pub record Turned (P : List Known → Pass) (on : Setting) (segs : List ℕ) (te
   pub more : RowsMore on.leaves c₀ c
   pub most : c.size ≤ TEXT_MAX
 
-abbrev pub TurnedOr : (List Known → Pass) → Setting → List ℕ → Text → Buffers → Counters → Buffers → Done → Type 0
-TurnedOr P on segs text β₀ c₀ β (Going c) = Turned P on segs text β₀ c₀ β c
-TurnedOr P on segs text β₀ c₀ β (Stopped e) =
+abbrev pub TurnedOr : (List Known → Pass) → Setting → List ℕ → Text → Buffers → Counters → Buffers → Result Counters Refusal → Type 0
+TurnedOr P on segs text β₀ c₀ β (Ok c) = Turned P on segs text β₀ c₀ β c
+TurnedOr P on segs text β₀ c₀ β (Err e) =
     (b : Progress) → RecordedIn text β₀ c₀ b
     → after_events on.sweep (segments_events (P (knowing text β₀ c₀)).says (list_of (segment_of (label_at segs) (first_leaf segs) (leaves β₀)) 0 on.segments)) b ≡ stopped e
 
-pub record TurnTaken (P : List Known → Pass) (on : Setting) (segs : List ℕ) (text : Text) (β₀ : Buffers) (c₀ : Counters) (β : Buffers) (r : Done) : Type 0 where
+pub record TurnTaken (P : List Known → Pass) (on : Setting) (segs : List ℕ) (text : Text) (β₀ : Buffers) (c₀ : Counters) (β : Buffers) (r : Result Counters Refusal) : Type 0 where
   pub out : TurnedOr P on segs text β₀ c₀ β r

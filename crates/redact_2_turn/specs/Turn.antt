@@ -1,6 +1,6 @@
 -- A turn of a run: a rule that acts on each leaf, a rule that collapses nodes, a rejecting posture, the sweep, or nothing; and what it looks
 -- at. Assumes nothing: these are definitions.
-use Rattle.std.specs.Prelude.{◌≡◌, Bool, true, false, not, cond, ◌&&◌, ◌||◌, List, [], ◌∷◌, ℕ, ◌+◌, ◌≤◌, eqb, length, get_or}
+use Rattle.std.specs.Prelude.{◌≡◌, Bool, true, false, not, cond, ◌&&◌, ◌||◌, List, [], ◌∷◌, ℕ, ◌+◌, ◌≤◌, eqb, length, get_or, Option, Some, None}
 use Rattle.std.proofs.Math.Option.{none}
 use Rattle.text.specs.Text.{Text, same}
 use Rattle.er7.specs.Path.{as_path, PathHeld}
@@ -17,6 +17,7 @@ use Rattle.redact_4_leaf.specs.Visit.{rule_pass, unnamed_pass}
 use Rattle.redact_2_turn.specs.declared.turn.Turn.{Turn}
 use Rattle.redact_2_turn.specs.declared.turn.Turn.TheVariants.{Apply, Collapse, Reject, Sweep, Idle}
 use Rattle.redact_2_turn.specs.declared.turn.Aim.{Aim}
+use Rattle.redact_2_turn.specs.declared.turn.Aim.TheVariants.{Reached, Unnamed, Nothing}
 use Rattle.redact_2_turn.specs.declared.turn.Job.{Job}
 use Rattle.refusal.specs.Limits.{INPUT_MAX}
 
@@ -42,50 +43,46 @@ by_node Idle = false
 
 -- ---- what a turn looks at
 
-unfoldable pub no_path : HeldPath
-no_path = record { segment = 0; segment_len = 0; segment_occurrence = 0; field = 0; repetition = 0; component = 0; subcomponent = 0 }
-
--- byte k of the name that a path has, if it has three
-unfoldable pub name_byte : Text → HeldPath → ℕ → ℕ
-name_byte text w k = cond (eqb w.segment_len 3) (get_or text (w.segment + k) 0) 0
+-- the name that a path has, if it has three bytes
+unfoldable pub name_of : Text → HeldPath → Option (ℕ × ℕ × ℕ)
+name_of text w = cond (eqb w.segment_len 3) (Some (get_or text w.segment 0, get_or text (w.segment + 1) 0, get_or text (w.segment + 2) 0)) None
 
 unfoldable pub aim_at : Text → HeldPath → Aim
-aim_at text w =
-    record {
-      every = false;
-      some = eqb w.segment_len 3;
-      a = name_byte text w 0;
-      b = name_byte text w 1;
-      c = name_byte text w 2;
-      path = w;
-      unnamed = false;
-      empty = true;
-    }
-
-unfoldable pub aim_unnamed : Bool → Bool → Aim
-aim_unnamed every empty = record { every = every; some = false; a = 0; b = 0; c = 0; path = no_path; unnamed = true; empty = empty }
+aim_at text w = Reached (name_of text w) w
 
 -- a leaf that is empty is left by every action but null
 unfoldable pub aim_of : Text → Turn → Aim
 aim_of text (Apply r) = aim_at text r.path
 aim_of text (Collapse r) = aim_at text r.path
-aim_of text (Reject a) = aim_unnamed true (is_null_action (as_action text a))
-aim_of text Sweep = aim_unnamed true false
-aim_of text Idle = aim_unnamed false false
+aim_of text (Reject a) = Unnamed (is_null_action (as_action text a))
+aim_of text Sweep = Unnamed false
+aim_of text Idle = Nothing
+
+-- the field to which an aim keeps, 0 for none
+unfoldable pub field_of : Aim → ℕ
+field_of (Reached name w) = w.field
+field_of (Unnamed empty) = 0
+field_of Nothing = 0
 
 -- a segment with which an aim has to do
 unfoldable pub enters : Aim → Label → Bool
-enters aim g = aim.every || (aim.some && same (aim.a ∷ aim.b ∷ aim.c ∷ []) g.name && fits aim.path.segment_occurrence g.occurrence)
+enters (Reached None w) g = false
+enters (Reached (Some n) w) g = same (n.0 ∷ n.1 ∷ n.2 ∷ []) g.name && fits w.segment_occurrence g.occurrence
+enters (Unnamed empty) g = true
+enters Nothing g = false
 
 -- leaf i of the segment g has not vanished and may be touched
 unfoldable pub is_touched : Label → List ℕ → ℕ → Bool
 is_touched g cells i = eqb (cell cells i 3) 0 && touchable g (place_at cells i)
 
 -- .. and an aim has to do with it
+unfoldable pub looks_at : Aim → Bool → List ℕ → ℕ → Bool
+looks_at (Reached name w) named cells i = reaches_place (as_path [] w) (place_at cells i)
+looks_at (Unnamed empty) named cells i = not named && (empty || not (eqb (cell cells i 2) 0))
+looks_at Nothing named cells i = false
+
 unfoldable pub works : Aim → Label → Bool → List ℕ → ℕ → Bool
-works aim g named cells i =
-    is_touched g cells i && reaches_place (as_path [] aim.path) (place_at cells i) && not (aim.unnamed && named)
-    && (aim.empty || not (eqb (cell cells i 2) 0))
+works aim g named cells i = is_touched g cells i && looks_at aim named cells i
 
 -- what a turn names lies in `text`
 abbrev pub TurnHeld : Text → Turn → Type 0

@@ -1,16 +1,10 @@
 -- Laws of a node that collapses at its first leaf. Assumes nothing.
-use mathlib.Core.Path.{◌≡◌, ap}
-use mathlib.Core.Bool.{Bool, true, false, ◌&&◌}
-use mathlib.Core.List.{List}
-use Prim.Native.Nat.{ℕ, suc, ◌+◌, ◌-◌, ◌*◌, ◌≤◌}
-use native.Mathlib.Omega.{arith}
-use lib.Dec.{eqb}
-use lib.ListN.{length, take, drop}
+use Rattle.std.proofs.Common.{◌≡◌, ap, Bool, true, false, ◌&&◌, List, ℕ, suc, ◌+◌, ◌-◌, ◌*◌, ◌≤◌, eqb, length, take, drop, arith, Some, None, Result, Ok, Err}
+use Rattle.std.proofs.Common.{Option as Maybe}
 use Rattle.text.specs.Text.{Text}
 use Rattle.text.proofs.Laws.{clash}
 use Rattle.text.proofs.Runs.{part_slice}
 use Rattle.text.proofs.Kept.{same_all}
-use Rattle.refusal.specs.declared.Refusal.TheVariants.{MessageTooLong}
 use Rattle.refusal.specs.Limits.{TEXT_MAX}
 use Rattle.message_model.specs.Value.{NULL, is_null}
 use Rattle.run_model.specs.Redact.{Reach, Event, becomes, collapse, size, Row}
@@ -19,11 +13,8 @@ use Rattle.er7_table.specs.Table.{cell}
 use Rattle.er7_render.specs.Stored.{live_sum}
 use Rattle.er7_render.proofs.Sums.{sum_step, sum_parts, sum_each}
 use Rattle.redact_5_act.specs.Act.{Acted}
-use Rattle.redact_5_act.specs.declared.act.Effect.{Effect as HeldEffect}
-use Rattle.redact_5_act.specs.declared.act.Effect.TheVariants.{Stays, Becomes, TooLong}
 use Rattle.redact_5_act.specs.declared.state.Counters.{Counters}
-use Rattle.redact_5_act.specs.declared.state.Done.{Done}
-use Rattle.redact_5_act.specs.declared.state.Done.TheVariants.{Going, Stopped}
+use Rattle.refusal.specs.declared.Refusal.{Refusal}
 use Rattle.redact_4_leaf.specs.State.{text_in, Countable, ChangePut, Learning, NodeReady, Change}
 use Rattle.redact_4_leaf.proofs.Acting.{node_live, stayed, entered, overran}
 use Rattle.redact_4_leaf.proofs.Rules.{learnt_going}
@@ -49,38 +40,33 @@ module _ (cells : List ℕ) (store : Text) (i e : ℕ) {rest : ℕ} (q : rest �
 
 -- ---- the null in the place of its first leaf
 
-null_few : {went : ℕ} {c : Counters} {store store' : Text} {r : HeldEffect} {k : ℕ} → Acted (becomes NULL) went c store store' r → r ≡ Becomes k → k ≤ 2
-null_few a q = let w = (rw q at a).out in let e : NULL ≡ w.text = cc w.is in omega (arith, w.long, null_length, ap length e)
+module _ {went : ℕ} {c : Counters} {store store' : Text} {r : Result (Maybe ℕ) Refusal} (a : Acted (becomes NULL) went c store store' r) where
+  null_few : {k : ℕ} → r ≡ Ok (Some k) → k ≤ 2
+  null_few q = let w = (rw q at a).out in let e : NULL ≡ w.text = cc w.is in omega (arith, w.long, null_length, ap length e)
 
-module _ {cells : List ℕ} {store : Text} {n i end : ℕ} {c₀ c : Counters} (e : c ≡ c₀) (g : NodeReady cells store n i end c₀) where
-  pub null_room : c.used + 2 ≤ 98304
-  null_room = rw e g.room
+  module _ {cells : List ℕ} {n i end : ℕ} (g : NodeReady cells store n i end c) where
+    pub null_countable : {k : ℕ} → r ≡ Ok (Some k) → Countable k c
+    null_countable q = record { rows = g.rows; report = g.report; size = g.most; used = omega (arith, g.room); text = omega (arith, null_few q) }
 
-  pub null_countable : {went : ℕ} {store' : Text} {r : HeldEffect} → Acted (becomes NULL) went c store store' r → {k : ℕ} → r ≡ Becomes k → Countable k c₀
-  null_countable a q = record { rows = g.rows; report = g.report; size = g.most; used = omega (arith, g.room); text = omega (arith, null_few a q) }
+    module _ (ρ : Row) (report : Text) where
+      pub null_stays : r ≡ Ok None → Change true (becomes NULL) ρ went n i cells store report c cells store' report (Ok c)
+      null_stays q = record { out = stayed (node_live g) true ρ went (rw q at a).out }
 
-  module _ (ρ : Row) (went : ℕ) (report : Text) {store' : Text} {r : HeldEffect} (a : Acted (becomes NULL) went c store store' r) where
-    nulled : Acted (becomes NULL) went c₀ store store' r
-    nulled = rw e at a
+      pub null_becomes : {k : ℕ} → r ≡ Ok (Some k) → {cells' : List ℕ} {report' : Text} {c' : Counters} → ChangePut ρ i went k cells report c cells' report' c'
+          → Change true (becomes NULL) ρ went n i cells store report c cells' store' report' (Ok c')
+      null_becomes q w = record { out = entered (node_live g) true ρ went (rw q at a).out w (λ x. clash x) (λ x. null_few q) }
 
-    pub null_stays : r ≡ Stays → Change true (becomes NULL) ρ went n i cells store report c₀ cells store' report (Going c₀)
-    null_stays q = record { out = stayed (node_live g) true ρ went (rw q at nulled).out }
-
-    pub null_becomes : {k : ℕ} → r ≡ Becomes k → {cells' : List ℕ} {report' : Text} {c' : Counters} → ChangePut ρ i went k cells report c₀ cells' report' c'
-        → Change true (becomes NULL) ρ went n i cells store report c₀ cells' store' report' (Going c')
-    null_becomes q w = record { out = entered (node_live g) true ρ went (rw q at nulled).out w (λ x. clash x) (λ x. null_few nulled q) }
-
-    pub null_long : r ≡ TooLong → {cells' : List ℕ} {report' : Text} → Change true (becomes NULL) ρ went n i cells store report c₀ cells' store' report' (Stopped MessageTooLong)
-    null_long q = record { out = overran (becomes NULL) ρ went report (rw q at nulled).out }
+      pub null_long : {x : Refusal} → r ≡ Err x → {cells' : List ℕ} {report' : Text} → Change true (becomes NULL) ρ went n i cells store report c cells' store' report' (Err x)
+      null_long q = let o = (rw q at a).out in record { out = rw o.0 (overran (becomes NULL) ρ went report o.1) }
 
 -- ---- the node becomes one null leaf, unless it is that already
 
 module _ {cells : List ℕ} {store : Text} {n i end : ℕ} {c : Counters} (g : NodeReady cells store n i end c) (ρ : Row) (report : Text) where
   pub node_stays : already cells store i end ≡ true
-      → Change true (collapse true (already cells store i end)) ρ (size (live_texts cells store i (end - i)) - 1) n i cells store report c cells store report (Going c)
+      → Change true (collapse true (already cells store i end)) ρ (size (live_texts cells store i (end - i)) - 1) n i cells store report c cells store report (Ok c)
   node_stays e = record { out = stayed (node_live g) true ρ _ (unfold collapse in rw e, same_all) }
 
-  pub node_becomes : {went : ℕ} {cells' : List ℕ} {store' report' : Text} {r : Done} → already cells store i end ≡ false → went ≡ size (live_texts cells store i (end - i)) - 1
+  pub node_becomes : {went : ℕ} {cells' : List ℕ} {store' report' : Text} {r : Result Counters Refusal} → already cells store i end ≡ false → went ≡ size (live_texts cells store i (end - i)) - 1
       → Change true (becomes NULL) ρ went n i cells store report c cells' store' report' r
       → Change true (collapse true (already cells store i end)) ρ (size (live_texts cells store i (end - i)) - 1) n i cells store report c cells' store' report' r
   unfolding collapse
@@ -114,8 +100,8 @@ ready_learnable {cells} {i = i} {end = end} g = record {
 }
 
 -- what was learnt takes none of it
-pub ready_learnt : {cells : List ℕ} {store : Text} {n i end : ℕ} {c c' : Counters} {es : List Event} {sweep : Bool} {text bytes bytes' : Text} {known known' : List ℕ} {r : Done}
-    → NodeReady cells store n i end c → Learning es sweep text bytes known c bytes' known' r → r ≡ Going c' → NodeReady cells store n i end c'
+pub ready_learnt : {cells : List ℕ} {store : Text} {n i end : ℕ} {c c' : Counters} {es : List Event} {sweep : Bool} {text bytes bytes' : Text} {known known' : List ℕ} {r : Result Counters Refusal}
+    → NodeReady cells store n i end c → Learning es sweep text bytes known c bytes' known' r → r ≡ Ok c' → NodeReady cells store n i end c'
 ready_learnt g m e =
     let l = learnt_going m e in
     record {

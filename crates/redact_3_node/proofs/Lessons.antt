@@ -1,4 +1,5 @@
 -- Laws of leaves that are learnt one after the other. Assumes nothing.
+use Rattle.std.proofs.Common.{Result, Ok, Err}
 use mathlib.Core.Path.{◌≡◌, refl, sym, ◌∙◌}
 use mathlib.Core.Bool.{Bool, ◌||◌}
 use mathlib.Core.List.{List, [], ◌∷◌, ◌++◌}
@@ -18,8 +19,7 @@ use Rattle.run_model.specs.Redact.{Event, learning, after_events}
 use Rattle.er7_table.specs.Table.{cell}
 use Rattle.redact_5_act.specs.Known.{action_at, GoodKnown, ActionsHeld}
 use Rattle.redact_5_act.specs.declared.state.Counters.{Counters}
-use Rattle.redact_5_act.specs.declared.state.Done.{Done}
-use Rattle.redact_5_act.specs.declared.state.Done.TheVariants.{Going, Stopped}
+use Rattle.refusal.specs.declared.Refusal.{Refusal}
 use Rattle.redact_4_leaf.specs.State.{text_in, KnownHeld, LearntTo, Learning, Readable}
 use Rattle.redact_4_leaf.proofs.Acting.{live_length}
 use Rattle.redact_4_leaf.proofs.Rules.{learnt_going, learnt_stopped}
@@ -49,8 +49,8 @@ module _ {es : List Event} {sweep : Bool} {text bytes bytes' : Text} {known know
     progress = λ report b k. rw (progress_append sweep es fs b) (m.progress report (after_events sweep es b) (l.progress report b k));
   }
 
-  learnt_stop : {fs : List Event} (gs : List Event) {bytes'' : Text} {known'' : List ℕ} {e : Refusal} → Learning fs sweep text bytes' known' c' bytes'' known'' (Stopped e)
-      → Learning (es ++ (fs ++ gs)) sweep text bytes known c bytes'' known'' (Stopped e)
+  learnt_stop : {fs : List Event} (gs : List Event) {bytes'' : Text} {known'' : List ℕ} {e : Refusal} → Learning fs sweep text bytes' known' c' bytes'' known'' (Err e)
+      → Learning (es ++ (fs ++ gs)) sweep text bytes known c bytes'' known'' (Err e)
   learnt_stop {fs} gs {e = e} m = record {
     out = λ report b k.
         rw (progress_append sweep es (fs ++ gs) b, progress_append sweep fs gs (after_events sweep es b), m.out report (after_events sweep es b) (l.progress report b k))
@@ -146,9 +146,9 @@ module _ {a : HeldAction} {s : Separators} {sweep : Bool} {first end : ℕ} {cel
       rw n (live_append cells store first (i - first) (1 + (end - suc i)) ∙ rw (m, live_append cells store i 1 (end - suc i)))
 
   -- leaf i is learnt
-  pub before_more : {bytes' : Text} {known' : List ℕ} {c' : Counters} {r : Done} → i < end
+  pub before_more : {bytes' : Text} {known' : List ℕ} {c' : Counters} {r : Result Counters Refusal} → i < end
       → ((text : Text) → ActionHeld text a → KnownHeld text bytes known c → Learning (learning s (as_action text a) (live_texts cells store i 1)) sweep text bytes known c bytes' known' r)
-      → r ≡ Going c' → LearntBefore a s sweep first end cells store bytes₀ known₀ c₀ bytes' known' c' (i + 1)
+      → r ≡ Ok c' → LearntBefore a s sweep first end cells store bytes₀ known₀ c₀ bytes' known' c' (i + 1)
   before_more {bytes'} {known'} {c'} h l e = record {
     low = omega (arith, w.low);
     high = omega arith;
@@ -159,10 +159,10 @@ module _ {a : HeldAction} {s : Separators} {sweep : Bool} {first end : ℕ} {cel
   }
 
   -- or the run is refused there
-  pub before_stop : {bytes' : Text} {known' : List ℕ} {r : Done} {f : Refusal} → i < end
+  pub before_stop : {bytes' : Text} {known' : List ℕ} {r : Result Counters Refusal} {f : Refusal} → i < end
       → ((text : Text) → ActionHeld text a → KnownHeld text bytes known c → Learning (learning s (as_action text a) (live_texts cells store i 1)) sweep text bytes known c bytes' known' r)
-      → r ≡ Stopped f → (text : Text) → ActionHeld text a → KnownHeld text bytes₀ known₀ c₀
-      → Learning (learning s (as_action text a) (live_texts cells store first (end - first))) sweep text bytes₀ known₀ c₀ bytes' known' (Stopped f)
+      → r ≡ Err f → (text : Text) → ActionHeld text a → KnownHeld text bytes₀ known₀ c₀
+      → Learning (learning s (as_action text a) (live_texts cells store first (end - first))) sweep text bytes₀ known₀ c₀ bytes' known' (Err f)
   before_stop {bytes'} {known'} {f = f} h l e text q k =
       let x = w.learnt text q k in
       let t : learning s (as_action text a) (live_texts cells store first (end - first))
@@ -173,14 +173,14 @@ module _ {a : HeldAction} {s : Separators} {sweep : Bool} {first end : ℕ} {cel
 
   -- all are learnt
   pub before_end : end ≤ i → (text : Text) → ActionHeld text a → KnownHeld text bytes₀ known₀ c₀
-      → Learning (learning s (as_action text a) (live_texts cells store first (end - first))) sweep text bytes₀ known₀ c₀ bytes known (Going c)
+      → Learning (learning s (as_action text a) (live_texts cells store first (end - first))) sweep text bytes₀ known₀ c₀ bytes known (Ok c)
   before_end h text q k = let e : end ≡ i = omega (arith, w.high) in record { out = rw e (w.learnt text q k) }
 
 -- ---- one leaf
 
 module _ (cells : List ℕ) (store : Text) (i : ℕ) where
   pub one_gone : (s : Separators) (a : Action) (sweep : Bool) {text bytes : Text} {known : List ℕ} {c : Counters} → (cell cells i 3 ≡ 0 → ⊥) → KnownHeld text bytes known c
-      → Learning (learning s a (live_texts cells store i 1)) sweep text bytes known c bytes known (Going c)
+      → Learning (learning s a (live_texts cells store i 1)) sweep text bytes known c bytes known (Ok c)
   one_gone s a sweep e h = record { out = rw (none_one e) (learnt_none s a sweep cells store (suc i) h) }
     where
       none_one : (cell cells i 3 ≡ 0 → ⊥) → live_texts cells store i 1 ≡ live_texts cells store (suc i) 0

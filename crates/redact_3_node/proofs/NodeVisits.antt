@@ -1,4 +1,5 @@
 -- Laws of a visit to a leaf in the pass of a rule that collapses nodes. Assumes nothing.
+use Rattle.std.proofs.Common.{Result, Ok, Err}
 use mathlib.Core.Path.{◌≡◌, refl, sym}
 use mathlib.Core.Bool.{Bool, true, false, ◌&&◌}
 use mathlib.Core.List.{List, [], ◌∷◌, ◌++◌}
@@ -24,8 +25,7 @@ use Rattle.er7_render.proofs.Sums.{lens_kept}
 use Rattle.redact_6_row.specs.Reach.{starts_at}
 use Rattle.redact_5_act.specs.declared.state.Setting.{Setting}
 use Rattle.redact_5_act.specs.declared.state.Counters.{Counters}
-use Rattle.redact_5_act.specs.declared.state.Done.{Done}
-use Rattle.redact_5_act.specs.declared.state.Done.TheVariants.{Going, Stopped}
+use Rattle.refusal.specs.declared.Refusal.{Refusal}
 use Rattle.redact_4_leaf.specs.State.{buffers, text_in, marked, KnownHeld, Learning, NodeReady, Change}
 use Rattle.redact_4_leaf.specs.Visit.{rule_pass, said_of, Visit}
 use Rattle.redact_4_leaf.specs.declared.leaf.Spot.{Spot}
@@ -67,7 +67,7 @@ behind named cells store end i = list_of (leaf_at (marked named) cells store) (s
 module _ (on : Setting) (at : Spot) (r : Rule) (text : Text) (named : List Bool) (cells : List ℕ) (store report bytes : Text) (known : List ℕ) (c : Counters)
     (w : NodeReady cells store on.leaves at.index at.end c) (few : on.leaves ≤ LEAVES_MAX) (k : KnownHeld text bytes known c) (e : covers r (as_label at.label) (place_at cells at.index) ≡ true) where
   pub visit_inner : (R : Reach) → R ≡ reach r → is_node R ≡ true → starts_at R (place_at cells at.index) ≡ false → {cells' : List ℕ} → Vanished cells at.index cells'
-      → Visit (λ ks. rule_pass on.key on.separators r) true on at text (buffers named cells store report bytes known) c (buffers named cells' store report bytes known) (Going c)
+      → Visit (λ ks. rule_pass on.key on.separators r) true on at text (buffers named cells store report bytes known) c (buffers named cells' store report bytes known) (Ok c)
   unfolding is_node starts_at
   visit_inner each_leaf q o h v = clash (sym o)
   visit_inner (each_node t) q o h {cells'} v = record {
@@ -130,15 +130,15 @@ module _ (on : Setting) (at : Spot) (r : Rule) (text : Text) (named : List Bool)
     (w : NodeReady cells store on.leaves at.index at.end c) (few : on.leaves ≤ LEAVES_MAX) (o : covers r (as_label at.label) (place_at cells at.index) ≡ true) {e : ℕ} where
   -- by what learning answered
   pub node_full : (R : Reach) → R ≡ reach r → is_node R ≡ true → starts_at R (place_at cells at.index) ≡ true → e ≡ node_end R cells (suc at.index) (at.end - suc at.index)
-      → {bytes' : Text} {known' : List ℕ} {x : Done} {f : Refusal} → Learning (learning on.separators r.action (live_texts cells store at.index (e - at.index))) on.sweep text bytes known c bytes' known' x → x ≡ Stopped f
-      → Visit (λ ks. rule_pass on.key on.separators r) true on at text (buffers named cells store report bytes known) c (buffers named cells store report bytes' known') (Stopped f)
+      → {bytes' : Text} {known' : List ℕ} {x : Result Counters Refusal} {f : Refusal} → Learning (learning on.separators r.action (live_texts cells store at.index (e - at.index))) on.sweep text bytes known c bytes' known' x → x ≡ Err f
+      → Visit (λ ks. rule_pass on.key on.separators r) true on at text (buffers named cells store report bytes known) c (buffers named cells store report bytes' known') (Err f)
   unfolding is_node starts_at
   node_full each_leaf q i h l m y = clash (sym i)
   node_full (each_node t) q i h l m y = seen_full _ _ (first_said on.key on.separators r (as_label at.label) at.end at.index named cells store t q w.live o h l) (learnt_stopped m y).out
 
   pub node_done : (R : Reach) → R ≡ reach r → is_node R ≡ true → starts_at R (place_at cells at.index) ≡ true → e ≡ node_end R cells (suc at.index) (at.end - suc at.index)
-      → {bytes' : Text} {known' : List ℕ} {c₁ : Counters} {x : Done} → Learning (learning on.separators r.action (live_texts cells store at.index (e - at.index))) on.sweep text bytes known c bytes' known' x → x ≡ Going c₁
-      → {cells' : List ℕ} {store' report' : Text} (y : Done)
+      → {bytes' : Text} {known' : List ℕ} {c₁ : Counters} {x : Result Counters Refusal} → Learning (learning on.separators r.action (live_texts cells store at.index (e - at.index))) on.sweep text bytes known c bytes' known' x → x ≡ Ok c₁
+      → {cells' : List ℕ} {store' report' : Text} (y : Result Counters Refusal)
       → Change true (collapse true (already cells store at.index e)) (row (as_label at.label) (place_at cells at.index) r.action) (size (live_texts cells store at.index (e - at.index)) - 1) on.leaves at.index cells store report c₁ cells' store' report' y
       → Visit (λ ks. rule_pass on.key on.separators r) true on at text (buffers named cells store report bytes known) c (buffers named cells' store' report' bytes' known') y
   unfolding is_node starts_at

@@ -1,15 +1,10 @@
 -- Laws of a node's leaves. Assumes nothing.
-use mathlib.Core.Path.{◌≡◌, refl, sym, ◌∙◌}
-use mathlib.Core.Bool.{Bool, true, false, ◌&&◌}
-use mathlib.Core.List.{List, ◌∷◌, ◌++◌}
-use mathlib.Core.Option.{none, some}
-use Prim.Native.Nat.{ℕ, zero, suc, ◌+◌, ◌-◌, ◌≤◌, ◌<◌}
+use Rattle.std.proofs.Common.{◌≡◌, refl, sym, Bool, true, false, ◌&&◌, List, ◌∷◌, ◌++◌, ℕ, zero, suc, ◌+◌, ◌-◌, ◌≤◌, ◌<◌, eqb, ne_eqb, arith, MatchOption, unwrap_or, Some, None}
+use Rattle.std.proofs.Common.{Option as Maybe}
+use Rattle.std.proofs.Math.Option.{none, some}
 use native.Mathlib.Nat.{sub_self}
-use native.Mathlib.Omega.{arith}
-use borrow.Author.Tests.{ne_eqb}
-use lib.Dec.{eqb}
 use Rattle.text.specs.Text.{Text}
-use Rattle.text.proofs.Laws.{by_cond}
+use Rattle.text.proofs.Laws.{by_cond, split}
 use Rattle.er7.specs.declared.message.Place.{Place}
 use Rattle.message_model.specs.Message.{leaf}
 use Rattle.run_model.specs.Redact.{Reach, Depth, each_node, starts, rest_of_node, size, is_nil}
@@ -40,30 +35,24 @@ module _ (r : Reach) (cells : List ℕ) where
   end_high i zero = omega arith
   end_high i (suc k) = by_cond (λ (e : ℕ). e ≤ i + suc k) (opens r cells i) _ _ (λ _. omega arith) (λ _. omega (arith, end_high (suc i) k))
 
--- the search has come from leaf i to leaf j
-pub record Seeking (r : Reach) (cells : List ℕ) (i end j : ℕ) : Type 0 where
-  pub low : i ≤ j
-  pub high : j ≤ end
-  pub is : node_end r cells j (end - j) ≡ node_end r cells i (end - i)
-
-pub seeking_start : {r : Reach} {cells : List ℕ} {i end : ℕ} → i < end → Seeking r cells (suc i) end (i + 1)
-seeking_start {i = i} h = let m : i + 1 ≡ suc i = omega arith in record { low = omega arith; high = omega arith; is = rw m }
-
-module _ {r : Reach} {cells : List ℕ} {i end j : ℕ} (w : Seeking r cells i end j) where
-  pub seeking_found : j < end → opens r cells j ≡ true → j ≡ node_end r cells i (end - i)
+  none_opens : (k i : ℕ) → ((x : ℕ) → i ≤ x → x < i + k → opens r cells x ≡ false) → node_end r cells i k ≡ i + k
   unfolding node_end
-  seeking_found h o = let n : end - j ≡ suc (end - suc j) = omega arith in sym (rw (n, o)) ∙ w.is
+  none_opens zero i h = omega arith
+  none_opens (suc k) i h = rw (h i (omega arith) (omega arith)) (omega (arith, none_opens k (suc i) (λ x l m. h x (omega arith) (omega arith))))
 
-  pub seeking_more : j < end → opens r cells j ≡ false → Seeking r cells i end (j + 1)
+  first_opens : (k i j : ℕ) → i ≤ j → j < i + k → opens r cells j ≡ true → ((x : ℕ) → i ≤ x → x < j → opens r cells x ≡ false) → node_end r cells i k ≡ j
   unfolding node_end
-  seeking_more h o =
-      let n : end - j ≡ suc (end - suc j) = omega arith in
-      let m : j + 1 ≡ suc j = omega arith in
-      record { low = omega (arith, w.low); high = omega arith; is = rw m (sym (rw (n, o)) ∙ w.is) }
+  first_opens zero i j l m o h = absurd (omega arith)
+  first_opens (suc k) i j l m o h = split i j
+      (λ q. rw (h i (omega arith) q) (first_opens k (suc i) j (omega arith) (omega arith) o (λ x n z. h x (omega arith) z)))
+      (λ q. let e : i ≡ j = omega arith in rw (e, o))
 
-  pub seeking_end : end ≤ j → j ≡ node_end r cells i (end - i)
-  unfolding node_end
-  seeking_end h = let n : end - j ≡ 0 = omega arith in sym (rw n) ∙ w.is
+  -- by the first leaf that was found to do so
+  pub end_found : (i end : ℕ) → i < end → (o : Maybe ℕ)
+      → MatchOption o ((x : ℕ) → i + 1 ≤ x → x < end → opens r cells x ≡ false) (λ j. (i + 1 ≤ j) × (j < end) × (opens r cells j ≡ true) × ((x : ℕ) → i + 1 ≤ x → x < j → opens r cells x ≡ false))
+      → unwrap_or o end ≡ node_end r cells (suc i) (end - suc i)
+  end_found i end l None h = omega (arith, none_opens (end - suc i) (suc i) (λ x m n. h x (omega arith) (omega arith)))
+  end_found i end l (Some j) h = sym (first_opens (end - suc i) (suc i) j (omega (arith, h.0)) (omega (arith, h.1)) h.2 (λ x m n. h.3 x (omega arith) n))
 
 -- ---- the texts of a node's leaves
 

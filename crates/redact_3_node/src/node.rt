@@ -9,7 +9,7 @@ ghost use Rattle.er7_table.specs.Table.{place_at, as_label};
 ghost use Rattle.er7_render.specs.Stored.{live_len, live_sum};
 ghost use Rattle.redact_6_row.specs.Reach.{as_reach, starts_at};
 ghost use Rattle.redact_5_act.specs.Known.{GoodKnown};
-ghost use Rattle.redact_5_act.specs.State.{counted, after_step};
+ghost use Rattle.redact_5_act.specs.State.{after_step};
 ghost use Rattle.redact_4_leaf.specs.State.{buffers, KnownHeld, Learning, NodeReady, Change};
 ghost use Rattle.redact_4_leaf.specs.Visit.{rule_pass, Visit};
 ghost use Rattle.redact_3_node.specs.Node.{node_end, live_texts, leaf_size, leaves_size, Learnable, AllLearnable, already};
@@ -23,9 +23,9 @@ use er7_table::table::place_at;
 use er7_value::escape::is_null;
 use redact_4_leaf::leaf::{Spot, put_change};
 use redact_4_leaf::learn::learn_at;
-use redact_5_act::act::{Effect, put_null};
+use redact_5_act::act::put_null;
 use redact_5_act::known::KNOWN_CELLS;
-use redact_5_act::state::{Setting, Step, read_tally};
+use redact_5_act::state::{Counters, Setting};
 use redact_6_row::reach::{Reach, reach_of, starts};
 use refusal::Refusal;
 
@@ -45,14 +45,9 @@ fn node_end(reach: Reach, i: usize, end: usize, cells: &[usize]) -> usize
     requires { (i < end) × (end * 8 ≤ length cells.now) }
     ensures { result ≡ node_end (as_reach reach) cells.now (suc i) (end - suc i) }
 {
-    let mut j = i + 1;
-    while j < end {
-        if opens(reach, j, cells) {
-            return j;
-        }
-        j += 1;
-    }
-    j
+    (i + 1..end)
+        .find(|&j| opens(reach, j, cells))
+        .unwrap_or(end)
 }
 
 // The bytes of leaf i with its delimiter, 0 if it has vanished.
@@ -73,10 +68,8 @@ fn leaves_size(first: usize, end: usize, cells: &[usize]) -> usize
     ensures { result ≡ leaves_size cells.now first (end - first) }
 {
     let mut sum = 0;
-    let mut i = first;
-    while i < end {
+    for i in first..end {
         sum += leaf_size(i, cells);
-        i += 1;
     }
     sum
 }
@@ -90,16 +83,16 @@ fn learn_live(
     store: &[u8; 98304],
     bytes: &mut [u8; 65536],
     known: &mut [usize; KNOWN_CELLS],
-    tally: &mut [usize; 6],
-) -> Step
-    requires { Learnable cells.now bytes.old known.old i (counted tally.old) }
-    ensures { (text : Text) → ActionHeld text a → KnownHeld text bytes.old known.old (counted tally.old) → Learning (learning on.separators (as_action text a) (live_texts cells.now store.now i 1)) on.sweep text bytes.old known.old (counted tally.old) bytes.new known.new (after_step (counted tally.new) result) }
+    counters: &mut Counters,
+) -> Result<(), Refusal>
+    requires { Learnable cells.now bytes.old known.old i counters.old }
+    ensures { (text : Text) → ActionHeld text a → KnownHeld text bytes.old known.old counters.old → Learning (learning on.separators (as_action text a) (live_texts cells.now store.now i 1)) on.sweep text bytes.old known.old counters.old bytes.new known.new (after_step counters.new result) }
 {
     let row = i * 8;
     if cells[row + 3] != 0 {
-        return Step::Made;
+        return Ok(());
     }
-    learn_at(on, a, i, cells, store, bytes, known, tally)
+    learn_at(on, a, i, cells, store, bytes, known, counters)
 }
 
 // Learns what the leaves from leaf first to before leaf end say that have not vanished.
@@ -112,22 +105,15 @@ fn learn_all(
     store: &[u8; 98304],
     bytes: &mut [u8; 65536],
     known: &mut [usize; KNOWN_CELLS],
-    tally: &mut [usize; 6],
-) -> Step
-    requires { AllLearnable cells.now first end × GoodKnown bytes.old known.old (counted tally.old).known (counted tally.old).known_used }
-    ensures { (text : Text) → ActionHeld text a → KnownHeld text bytes.old known.old (counted tally.old) → Learning (learning on.separators (as_action text a) (live_texts cells.now store.now first (end - first))) on.sweep text bytes.old known.old (counted tally.old) bytes.new known.new (after_step (counted tally.new) result) }
+    counters: &mut Counters,
+) -> Result<(), Refusal>
+    requires { AllLearnable cells.now first end × GoodKnown bytes.old known.old counters.old.known counters.old.known_used }
+    ensures { (text : Text) → ActionHeld text a → KnownHeld text bytes.old known.old counters.old → Learning (learning on.separators (as_action text a) (live_texts cells.now store.now first (end - first))) on.sweep text bytes.old known.old counters.old bytes.new known.new (after_step counters.new result) }
 {
-    let mut i = first;
-    while i < end {
-        match learn_live(on, a, i, cells, store, bytes, known, tally) {
-            Step::Made => {}
-            Step::Refused(refusal) => {
-                return Step::Refused(refusal);
-            }
-        }
-        i += 1;
+    for i in first..end {
+        learn_live(on, a, i, cells, store, bytes, known, counters)?;
     }
-    Step::Made
+    Ok(())
 }
 
 // Makes the null the text of a leaf, with its row, where went bytes of the message go.
@@ -140,19 +126,15 @@ fn put_null_change(
     cells: &mut [usize],
     store: &mut [u8; 98304],
     report: &mut [u8],
-    tally: &mut [usize; 6],
-) -> Step
-    requires { ActionHeld text.now a × NodeReady cells.old store.old n at.index at.end (counted tally.old) × (length text.now ≤ INPUT_MAX) }
-    ensures { Change true (becomes NULL) (row (as_label at.label) (place_at cells.old at.index) (as_action text.now a)) went n at.index cells.old store.old report.old (counted tally.old) cells.new store.new report.new (after_step (counted tally.new) result) }
+    counters: &mut Counters,
+) -> Result<(), Refusal>
+    requires { ActionHeld text.now a × NodeReady cells.old store.old n at.index at.end counters.old × (length text.now ≤ INPUT_MAX) }
+    ensures { Change true (becomes NULL) (row (as_label at.label) (place_at cells.old at.index) (as_action text.now a)) went n at.index cells.old store.old report.old counters.old cells.new store.new report.new (after_step counters.new result) }
 {
-    match put_null(store, went, read_tally(tally)) {
-        Effect::Stays => Step::Made,
-        Effect::Becomes(came) => {
-            put_change(at, a, text, went, came, cells, report, tally);
-            Step::Made
-        }
-        Effect::TooLong => Step::Refused(Refusal::MessageTooLong),
+    if let Some(came) = put_null(store, went, *counters)? {
+        put_change(at, a, text, went, came, cells, report, counters);
     }
+    Ok(())
 }
 
 // The node that begins at a leaf and ends before index at.end becomes one null leaf, unless it is that already.
@@ -164,22 +146,20 @@ fn null_node(
     cells: &mut [usize],
     store: &mut [u8; 98304],
     report: &mut [u8],
-    tally: &mut [usize; 6],
-) -> Step
-    requires { ActionHeld text.now a × NodeReady cells.old store.old n at.index at.end (counted tally.old) × (length text.now ≤ INPUT_MAX) }
-    ensures { Change true (collapse true (already cells.old store.old at.index at.end)) (row (as_label at.label) (place_at cells.old at.index) (as_action text.now a)) (size (live_texts cells.old store.old at.index (at.end - at.index)) - 1) n at.index cells.old store.old report.old (counted tally.old) cells.new store.new report.new (after_step (counted tally.new) result) }
+    counters: &mut Counters,
+) -> Result<(), Refusal>
+    requires { ActionHeld text.now a × NodeReady cells.old store.old n at.index at.end counters.old × (length text.now ≤ INPUT_MAX) }
+    ensures { Change true (collapse true (already cells.old store.old at.index at.end)) (row (as_label at.label) (place_at cells.old at.index) (as_action text.now a)) (size (live_texts cells.old store.old at.index (at.end - at.index)) - 1) n at.index cells.old store.old report.old counters.old cells.new store.new report.new (after_step counters.new result) }
 {
     let i = at.index;
     let row = i * 8;
     let start = cells[row + 1];
     let len = cells[row + 2];
-    let stop = start + len;
     let rest = leaves_size(i + 1, at.end, cells);
-    let all = &store[..];
-    if is_null(&all[start..stop]) & (rest == 0) {
-        return Step::Made;
+    if is_null(&store[start..start + len]) & (rest == 0) {
+        return Ok(());
     }
-    put_null_change(at, n, a, text, len + rest, cells, store, report, tally)
+    put_null_change(at, n, a, text, len + rest, cells, store, report, counters)
 }
 
 // The collapse of the node whose first leaf this is, in a segment whose leaves end before index at.end.
@@ -193,26 +173,25 @@ fn collapse_node(
     report: &mut [u8],
     bytes: &mut [u8; 65536],
     known: &mut [usize; KNOWN_CELLS],
-    tally: &mut [usize; 6],
-) -> Step
-    requires { ActionHeld text.now rule.action × (is_node (reach (as_rule text.now rule)) ≡ true) × (covers (as_rule text.now rule) (as_label at.label) (place_at cells.old at.index) ≡ true) × (starts_at (reach (as_rule text.now rule)) (place_at cells.old at.index) ≡ true) × NodeReady cells.old store.old on.leaves at.index at.end (counted tally.old) × KnownHeld text.now bytes.old known.old (counted tally.old) × (length text.now ≤ INPUT_MAX) × (on.leaves ≤ LEAVES_MAX) }
-    ensures { (named : List Bool) → Visit (λ ks. rule_pass on.key on.separators (as_rule text.now rule)) true on at text.now (buffers named cells.old store.old report.old bytes.old known.old) (counted tally.old) (buffers named cells.new store.new report.new bytes.new known.new) (after_step (counted tally.new) result) }
+    counters: &mut Counters,
+) -> Result<(), Refusal>
+    requires { ActionHeld text.now rule.action × (is_node (reach (as_rule text.now rule)) ≡ true) × (covers (as_rule text.now rule) (as_label at.label) (place_at cells.old at.index) ≡ true) × (starts_at (reach (as_rule text.now rule)) (place_at cells.old at.index) ≡ true) × NodeReady cells.old store.old on.leaves at.index at.end counters.old × KnownHeld text.now bytes.old known.old counters.old × (length text.now ≤ INPUT_MAX) × (on.leaves ≤ LEAVES_MAX) }
+    ensures { (named : List Bool) → Visit (λ ks. rule_pass on.key on.separators (as_rule text.now rule)) true on at text.now (buffers named cells.old store.old report.old bytes.old known.old) counters.old (buffers named cells.new store.new report.new bytes.new known.new) (after_step counters.new result) }
 {
     let a = rule.action;
     let i = at.index;
-    let label = at.label;
     let end = node_end(reach_of(rule), i, at.end, cells);
-    match learn_all(on, a, i, end, cells, store, bytes, known, tally) {
-        Step::Made => {
-            let node = Spot {
-                label,
-                end,
-                index: i,
-            };
-            null_node(node, on.leaves, a, text, cells, store, report, tally)
-        }
-        Step::Refused(refusal) => Step::Refused(refusal),
-    }
+    learn_all(on, a, i, end, cells, store, bytes, known, counters)?;
+    null_node(
+        Spot { end, ..at },
+        on.leaves,
+        a,
+        text,
+        cells,
+        store,
+        report,
+        counters,
+    )
 }
 
 // A rule that collapses nodes, on a leaf that it covers: a node collapses at its first leaf, and each other leaf of it vanishes.
@@ -226,17 +205,17 @@ pub fn collapse_leaf(
     report: &mut [u8],
     bytes: &mut [u8; 65536],
     known: &mut [usize; KNOWN_CELLS],
-    tally: &mut [usize; 6],
-) -> Step
-    requires { ActionHeld text.now rule.action × (is_node (reach (as_rule text.now rule)) ≡ true) × (covers (as_rule text.now rule) (as_label at.label) (place_at cells.old at.index) ≡ true) × NodeReady cells.old store.old on.leaves at.index at.end (counted tally.old) × KnownHeld text.now bytes.old known.old (counted tally.old) × (length text.now ≤ INPUT_MAX) × (on.leaves ≤ LEAVES_MAX) }
-    ensures { (named : List Bool) → Visit (λ ks. rule_pass on.key on.separators (as_rule text.now rule)) true on at text.now (buffers named cells.old store.old report.old bytes.old known.old) (counted tally.old) (buffers named cells.new store.new report.new bytes.new known.new) (after_step (counted tally.new) result) }
+    counters: &mut Counters,
+) -> Result<(), Refusal>
+    requires { ActionHeld text.now rule.action × (is_node (reach (as_rule text.now rule)) ≡ true) × (covers (as_rule text.now rule) (as_label at.label) (place_at cells.old at.index) ≡ true) × NodeReady cells.old store.old on.leaves at.index at.end counters.old × KnownHeld text.now bytes.old known.old counters.old × (length text.now ≤ INPUT_MAX) × (on.leaves ≤ LEAVES_MAX) }
+    ensures { (named : List Bool) → Visit (λ ks. rule_pass on.key on.separators (as_rule text.now rule)) true on at text.now (buffers named cells.old store.old report.old bytes.old known.old) counters.old (buffers named cells.new store.new report.new bytes.new known.new) (after_step counters.new result) }
 {
     let i = at.index;
     if !starts(reach_of(rule), place_at(cells, i)) {
         set_gone(cells, i);
-        return Step::Made;
+        return Ok(());
     }
     collapse_node(
-        on, at, rule, text, cells, store, report, bytes, known, tally,
+        on, at, rule, text, cells, store, report, bytes, known, counters,
     )
 }

@@ -1,29 +1,22 @@
 -- Laws of an action on a leaf, its text in the store, its row and the progress. Assumes nothing.
-use mathlib.Core.Path.{◌≡◌, refl, sym, ap, ◌∙◌}
-use mathlib.Core.Bool.{Bool, true, false}
-use mathlib.Core.List.{List, [], ◌∷◌, ◌++◌}
-use mathlib.Core.Option.{some}
-use Prim.Native.Nat.{ℕ, ◌+◌, ◌-◌, ◌≤◌, ◌<◌}
-use native.Mathlib.Omega.{arith}
-use borrow.Author.Tests.{lt-ltb, le-ltb}
-use lib.ListN.{length, length-append}
+use Rattle.std.proofs.Common.{◌≡◌, refl, sym, ap, ◌∙◌, Bool, true, false, List, [], ◌∷◌, ◌++◌, ℕ, ◌+◌, ◌-◌, ◌≤◌, ◌<◌, length, Some, None, Result, Ok, Err}
+use Rattle.std.proofs.Common.{arith, lt-ltb, le-ltb, length-append}
+use Rattle.std.proofs.Common.{Option as Maybe}
+use Rattle.std.proofs.Math.Option.{some}
+use Rattle.refusal.specs.declared.Refusal.{Refusal}
 use Rattle.text.specs.Text.{Text, SameTo}
 use Rattle.text.proofs.Laws.{clash}
 use Rattle.text.proofs.Kept.{part_length}
 use Rattle.refusal.specs.declared.Refusal.TheVariants.{MessageTooLong}
 use Rattle.refusal.specs.Limits.{TEXT_MAX}
-use Rattle.run_model.specs.Redact.{Effect, stays, after, Row, changing, Known, Progress, stopped, after_event, after_events, print_row}
+use Rattle.run_model.specs.Redact.{Effect, stays, after, Row, changing, Known, Progress, stopped, after_event, after_events}
 use Rattle.er7_table.specs.Table.{cell, stored_text, Good}
 use Rattle.er7_render.specs.Stored.{TextSet, live_len}
 use Rattle.er7_render.proofs.Slots.{good_more, set_good, kept_text, kept_good}
 use Rattle.er7_render.proofs.Sums.{lens_kept}
-use Rattle.redact_6_row.specs.Report.{RowAt}
 use Rattle.redact_6_row.proofs.Rows.{reported_more}
 use Rattle.redact_5_act.specs.Act.{LeafHeld, Became, Overran, ActedBeside}
-use Rattle.redact_5_act.specs.declared.act.Effect.{Effect as HeldEffect}
-use Rattle.redact_5_act.specs.declared.act.Effect.TheVariants.{Stays, Becomes, TooLong}
 use Rattle.redact_5_act.specs.declared.state.Counters.{Counters}
-use Rattle.redact_5_act.specs.declared.state.Done.TheVariants.{Going, Stopped}
 use Rattle.redact_4_leaf.specs.State.{text_in, Recorded, Ready, NodeReady, Countable, ChangePut, Changed, ActedOn}
 
 -- ---- a leaf that has not vanished
@@ -51,17 +44,6 @@ live_length cells i e = rw e
 pub text_length_lem : {cells : List ℕ} {store : Text} {n used : ℕ} → Good cells store n used → (i : ℕ) → i < n → length (text_in cells store i) ≡ cell cells i 2
 unfolding text_in
 text_length_lem {cells} {store} g i h = part_length store (cell cells i 1) (cell cells i 2) (omega (arith, g.ends i h, g.room))
-
--- ---- counters, read and written
-
-pub countable_by : {came : ℕ} {c c₀ : Counters} → c ≡ c₀ → Countable came c₀ → Countable came c
-countable_by e k = rw e k
-
-pub entered_by : {ρ : Row} {i went came m : ℕ} {cells cells' : List ℕ} {report report' : Text} {c c₀ c₁ : Counters} → c ≡ c₀ → TextSet cells i c.used came cells'
-    → RowAt report c.report_len (print_row ρ) report' m → m ≤ c.report_len + 65536
-    → c₁ ≡ record { rows = c.rows + 1; report_len = m; size = c.size - went + came; used = c.used + came; known = c.known; known_used = c.known_used }
-    → ChangePut ρ i went came cells report c₀ cells' report' c₁
-entered_by e t r most q = rw (← e, q) (record { set = t; row = r; row_most = most; rows = refl; size = refl; used = refl; known = refl; known_used = refl })
 
 -- ---- what becomes of a leaf
 
@@ -137,28 +119,26 @@ overran {c} F ρ went report o sweep ks b k = rw (k.is, o.is, lt-ltb TEXT_MAX (c
 
 -- ---- by the answer of `act`
 
-module _ {cells : List ℕ} {store : Text} {n i : ℕ} {c₀ c : Counters} (e : c ≡ c₀) (g : Ready cells store n i c₀) where
+module _ {cells : List ℕ} {store : Text} {n i : ℕ} {c : Counters} (g : Ready cells store n i c) where
   pub leaf_held : LeafHeld (cell cells i 1) (cell cells i 2) c
-  leaf_held = rw e (record { inside = g.good.ends i g.inside; room = g.room })
+  leaf_held = record { inside = g.good.ends i g.inside; room = g.room }
 
-  pub acted_countable : {F : Effect} {store' bytes bytes' : Text} {r : HeldEffect} → ActedBeside F (cell cells i 2) c store store' bytes bytes' r → {k : ℕ} → r ≡ Becomes k → Countable k c₀
-  acted_countable a q =
-      let few = (rw q at a).out.few in
-      record { rows = g.rows; report = g.report; size = g.room.most; used = omega (arith, g.room.room); text = omega (arith, few) }
+  module _ {F : Effect} {store' bytes bytes' : Text} {r : Result (Maybe ℕ) Refusal} (a : ActedBeside F (cell cells i 2) c store store' bytes bytes' r) where
+    pub acted_countable : {k : ℕ} → r ≡ Ok (Some k) → Countable k c
+    acted_countable q =
+        let few = (rw q at a).out.few in
+        record { rows = g.rows; report = g.report; size = g.room.most; used = omega (arith, g.room.room); text = omega (arith, few) }
 
-  module _ (F : Effect) (ρ : Row) (report : Text) {store' bytes bytes' : Text} {r : HeldEffect} (a : ActedBeside F (cell cells i 2) c store store' bytes bytes' r) where
-    acted : ActedBeside F (cell cells i 2) c₀ store store' bytes bytes' r
-    acted = rw e at a
+    module _ (ρ : Row) (report : Text) where
+      pub acted_stays : r ≡ Ok None → ActedOn F ρ n i cells store report bytes c cells store' report bytes' (Ok c)
+      acted_stays q = record { change = record { out = stayed (ready_live g) false ρ _ (rw q at a).out }; beside = a.beside }
 
-    pub acted_stays : r ≡ Stays → ActedOn F ρ n i cells store report bytes c₀ cells store' report bytes' (Going c₀)
-    acted_stays q = record { change = record { out = stayed (ready_live g) false ρ _ (rw q at acted).out }; beside = acted.beside }
+      pub acted_becomes : {k : ℕ} → r ≡ Ok (Some k) → {cells' : List ℕ} {report' : Text} {c' : Counters} → ChangePut ρ i (cell cells i 2) k cells report c cells' report' c'
+          → ActedOn F ρ n i cells store report bytes c cells' store' report' bytes' (Ok c')
+      acted_becomes q w = record {
+        change = record { out = entered (ready_live g) false ρ _ (rw q at a).out w (λ x. (refl, g.room.within)) (λ x. clash (sym x)) };
+        beside = a.beside;
+      }
 
-    pub acted_becomes : {k : ℕ} → r ≡ Becomes k → {cells' : List ℕ} {report' : Text} {c' : Counters} → ChangePut ρ i (cell cells i 2) k cells report c₀ cells' report' c'
-        → ActedOn F ρ n i cells store report bytes c₀ cells' store' report' bytes' (Going c')
-    acted_becomes q w = record {
-      change = record { out = entered (ready_live g) false ρ _ (rw q at acted).out w (λ x. (refl, g.room.within)) (λ x. clash (sym x)) };
-      beside = acted.beside;
-    }
-
-    pub acted_long : r ≡ TooLong → {cells' : List ℕ} {report' : Text} → ActedOn F ρ n i cells store report bytes c₀ cells' store' report' bytes' (Stopped MessageTooLong)
-    acted_long q = record { change = record { out = overran F ρ _ report (rw q at acted).out }; beside = acted.beside }
+      pub acted_long : {x : Refusal} → r ≡ Err x → {cells' : List ℕ} {report' : Text} → ActedOn F ρ n i cells store report bytes c cells' store' report' bytes' (Err x)
+      acted_long q = let o = (rw q at a).out in record { change = record { out = rw o.0 (overran F ρ _ report o.1) }; beside = a.beside }

@@ -1,25 +1,17 @@
 -- Laws of values that are learnt in a pass. Assumes nothing.
-use mathlib.Core.Path.{◌≡◌, refl, ◌∙◌}
-use mathlib.Core.Bool.{Bool, true, false, ◌||◌}
-use mathlib.Core.List.{List, [], ◌∷◌}
-use Prim.Native.Nat.{ℕ, ◌+◌, ◌-◌}
-use lib.Dec.{ltb}
-use lib.ListN.{length, take, drop}
+use Rattle.std.proofs.Common.{◌≡◌, refl, ◌∙◌, Bool, true, false, ◌||◌, List, [], ◌∷◌, ℕ, ◌+◌, ◌-◌, ltb, length, take, drop, Result, Ok, Err}
 use Rattle.text.specs.Text.{Text, lower, part}
 use Rattle.text.proofs.Laws.{by_cond}
 use Rattle.text.proofs.Runs.{part_slice}
 use Rattle.er7.specs.declared.separators.Separators.{Separators}
 use Rattle.er7_redact.specs.declared.action.Action.{Action as HeldAction}
 use Rattle.er7_redact.specs.Action.{Action, is_keep, as_action, ActionHeld}
-use Rattle.refusal.specs.declared.Refusal.TheVariants.{TooMuchLearnt}
 use Rattle.message_model.specs.Value.{is_empty_or_null, value}
 use Rattle.run_model.specs.Redact.{Event, learning, Row, Progress, running, stopped, after_event, after_events}
 use Rattle.redact_5_act.specs.Known.{known_from, learn_leaf, Learns, progress_of}
-use Rattle.redact_5_act.specs.declared.known.Learnt.{Learnt}
-use Rattle.redact_5_act.specs.declared.known.Learnt.TheVariants.{Kept, Full}
+use Rattle.refusal.specs.declared.Refusal.{Refusal}
 use Rattle.redact_5_act.specs.declared.state.Counters.{Counters}
-use Rattle.redact_5_act.specs.declared.state.Done.TheVariants.{Going, Stopped}
-use Rattle.redact_4_leaf.specs.State.{known_now, KnownHeld, LearntTo, Learning, Readable}
+use Rattle.redact_4_leaf.specs.State.{known_now, KnownHeld, LearntTo, Learning}
 
 -- events that leave the progress teach nothing
 pub learnt_none : (es : List Event) (sweep : Bool) {text bytes : Text} {known : List ℕ} {c : Counters} → ((b : Progress) → after_events sweep es b ≡ b)
@@ -50,30 +42,27 @@ learn_off s a (t ∷ ts) (running ks ρs z) =
     (λ _. learn_off s a ts (running ks ρs z)) (λ _. learn_off s a ts (running ks ρs z))
 
 pub learning_off : (s : Separators) (a : Action) (ts : List Text) (sweep : Bool) {text bytes : Text} {known : List ℕ} {c : Counters} → sweep ≡ false
-    → KnownHeld text bytes known c → Learning (learning s a ts) sweep text bytes known c bytes known (Going c)
+    → KnownHeld text bytes known c → Learning (learning s a ts) sweep text bytes known c bytes known (Ok c)
 learning_off s a ts sweep e h = record { out = learnt_none (learning s a ts) sweep (λ b. rw e (learn_off s a ts b)) h }
 
-pub readable_by : {cells : List ℕ} {bytes : Text} {known : List ℕ} {i : ℕ} {c c₀ : Counters} → c ≡ c₀ → Readable cells bytes known i c₀ → Readable cells bytes known i c
-readable_by e g = rw e g
-
 -- a leaf's text, lent as a part of the store
-module _ (s : Separators) (store : Text) (start len : ℕ) {a : HeldAction} {bytes bytes' : Text} {known known' : List ℕ} (c : Counters) {r : Learnt}
+module _ (s : Separators) (store : Text) (start len : ℕ) {a : HeldAction} {bytes bytes' : Text} {known known' : List ℕ} (c : Counters) {r : Result (ℕ × ℕ) Refusal}
     (l : Learns (learn_leaf s (take (start + len - start) (drop start store)) a) a bytes known c.known c.known_used bytes' known' r) (sweep : Bool) (on : sweep ≡ true) (text : Text) where
   recorded : (k : List Row) (z : ℕ) → after_events sweep (learning s (as_action text a) (part store start len ∷ [])) (running (known_from text bytes known 0 c.known) k z) ≡ progress_of text bytes' known' k z r
   unfolding learn_leaf
   recorded k z = rw (on, ← part_slice store start len) (l.progress text k z)
 
-  kept_to : {n used : ℕ} → r ≡ Kept n used → ActionHeld text a → KnownHeld text bytes known c
-      → Learning (learning s (as_action text a) (part store start len ∷ [])) sweep text bytes known c bytes' known'
-      (Going (record { rows = c.rows; report_len = c.report_len; size = c.size; used = c.used; known = n; known_used = used }))
+  -- with the counters as they are then
+  pub learning_kept : {n used : ℕ} → r ≡ Ok (n, used) → ActionHeld text a → KnownHeld text bytes known c
+      → Learning (learning s (as_action text a) (part store start len ∷ [])) sweep text bytes known c bytes' known' (Ok (record { rows = c.rows; report_len = c.report_len; size = c.size; used = c.used; known = n; known_used = used }))
   unfolding known_now progress_of
-  kept_to e q h = record {
+  learning_kept e q h = record {
     out = record {
       rows = refl;
       report = refl;
       size = refl;
       used = refl;
-      held = record { good = l.good _ _ e; held = l.held text q h.held _ _ e };
+      held = record { good = rw e at l.good; held = rw e at (l.held text q h.held) };
       progress = λ report b k. record {
         rows = k.rows;
         is = rw k.is (recorded k.rows c.size ∙ rw e);
@@ -83,12 +72,6 @@ module _ (s : Separators) (store : Text) (start len : ℕ) {a : HeldAction} {byt
     };
   }
 
-  -- by the counters that were read, and those that were written
-  pub learning_kept : {c₀ c₁ : Counters} → c ≡ c₀ → {n used : ℕ} → r ≡ Kept n used → ActionHeld text a → KnownHeld text bytes known c₀
-      → c₁ ≡ record { rows = c.rows; report_len = c.report_len; size = c.size; used = c.used; known = n; known_used = used }
-      → Learning (learning s (as_action text a) (part store start len ∷ [])) sweep text bytes known c₀ bytes' known' (Going c₁)
-  learning_kept e p q h w = rw (← e, w) (kept_to p q (rw (← e) at h))
-
-  pub learning_full : {c₀ : Counters} → c ≡ c₀ → r ≡ Full → Learning (learning s (as_action text a) (part store start len ∷ [])) sweep text bytes known c₀ bytes' known' (Stopped TooMuchLearnt)
+  pub learning_full : {x : Refusal} → r ≡ Err x → Learning (learning s (as_action text a) (part store start len ∷ [])) sweep text bytes known c bytes' known' (Err x)
   unfolding known_now progress_of
-  learning_full e p = rw (← e) (record { out = λ report b k. rw k.is (recorded k.rows c.size ∙ rw p) })
+  learning_full e = record { out = λ report b k. rw k.is (recorded k.rows c.size ∙ rw e) }

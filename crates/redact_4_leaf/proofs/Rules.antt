@@ -1,4 +1,5 @@
 -- Laws of a rule's visit to a leaf, where the rule acts on each leaf. Assumes nothing.
+use Rattle.std.proofs.Common.{Result, Ok, Err}
 use mathlib.Core.Path.{◌≡◌, refl, sym}
 use mathlib.Core.Bool.{Bool, true, false}
 use mathlib.Core.List.{List, [], ◌∷◌, ◌++◌}
@@ -22,8 +23,7 @@ use Rattle.er7_table.specs.Table.{cell, list_of, place_at, leaf_at, as_label}
 use Rattle.redact_5_act.specs.Known.{GoodKnown}
 use Rattle.redact_5_act.specs.declared.state.Setting.{Setting}
 use Rattle.redact_5_act.specs.declared.state.Counters.{Counters}
-use Rattle.redact_5_act.specs.declared.state.Done.{Done}
-use Rattle.redact_5_act.specs.declared.state.Done.TheVariants.{Going, Stopped}
+use Rattle.refusal.specs.declared.Refusal.{Refusal}
 use Rattle.redact_4_leaf.specs.State.{buffers, text_in, marked, Marked, KnownHeld, LearntTo, Learning, Readable, Ready, ActedOn}
 use Rattle.redact_4_leaf.specs.Visit.{rule_pass, said_of, Visit}
 use Rattle.redact_4_leaf.specs.declared.leaf.Spot.{Spot}
@@ -53,11 +53,11 @@ ready_readable {i = i} w k = record {
 }
 
 -- what learning answered
-module _ {es : List Event} {sweep : Bool} {text bytes bytes' : Text} {known known' : List ℕ} {c : Counters} {r : Done} (l : Learning es sweep text bytes known c bytes' known' r) where
-  pub learnt_going : {c₁ : Counters} → r ≡ Going c₁ → LearntTo es sweep text bytes known c bytes' known' c₁
+module _ {es : List Event} {sweep : Bool} {text bytes bytes' : Text} {known known' : List ℕ} {c : Counters} {r : Result Counters Refusal} (l : Learning es sweep text bytes known c bytes' known' r) where
+  pub learnt_going : {c₁ : Counters} → r ≡ Ok c₁ → LearntTo es sweep text bytes known c bytes' known' c₁
   learnt_going e = (rw e at l).out
 
-  pub learnt_stopped : {x : Refusal} → r ≡ Stopped x → Learning es sweep text bytes known c bytes' known' (Stopped x)
+  pub learnt_stopped : {x : Refusal} → r ≡ Err x → Learning es sweep text bytes known c bytes' known' (Err x)
   learnt_stopped e = rw e at l
 
 -- a rule names, learns and acts on what it covers
@@ -99,17 +99,17 @@ module _ (on : Setting) (at : Spot) (r : Rule) (text : Text) (named : List Bool)
     act_keep k = rw q at (keep_stays on.key on.separators r (place_at cells at.index) (text_in cells store at.index) [] (keep_is r.action (rw k tt)))
 
     pub rule_kept : {report : Text} → KnownHeld text bytes known c → is_keep r.action ≡ true
-        → Visit (λ ks. rule_pass on.key on.separators r) false on at text (buffers named cells store report bytes known) c (buffers named' cells store report bytes known) (Going c)
+        → Visit (λ ks. rule_pass on.key on.separators r) false on at text (buffers named cells store report bytes known) c (buffers named' cells store report bytes known) (Ok c)
     rule_kept h k =
-        seen_visit (rule_seen (learnt_none _ on.sweep (learn_keep on.separators r.action (text_in cells store at.index) on.sweep k) h)) (Going c)
+        seen_visit (rule_seen (learnt_none _ on.sweep (learn_keep on.separators r.action (text_in cells store at.index) on.sweep k) h)) (Ok c)
         (record { out = stayed (ready_live w) false _ _ (act_keep k, same_all) }) same_all (λ c' x y. refl)
 
-    pub rule_acted : {report : Text} {bytes₁ : Text} {known₁ : List ℕ} {c₁ : Counters} {x : Done} → Learning (learning on.separators r.action (text_in cells store at.index ∷ [])) on.sweep text bytes known c bytes₁ known₁ x → x ≡ Going c₁
-        → {cells' : List ℕ} {store' report' bytes' : Text} (y : Done)
+    pub rule_acted : {report : Text} {bytes₁ : Text} {known₁ : List ℕ} {c₁ : Counters} {x : Result Counters Refusal} → Learning (learning on.separators r.action (text_in cells store at.index ∷ [])) on.sweep text bytes known c bytes₁ known₁ x → x ≡ Ok c₁
+        → {cells' : List ℕ} {store' report' bytes' : Text} (y : Result Counters Refusal)
         → ActedOn (act on.key on.separators r.action (text_in cells store at.index)) (row (as_label at.label) (place_at cells at.index) r.action) on.leaves at.index cells store report bytes₁ c₁ cells' store' report' bytes' y
         → Visit (λ ks. rule_pass on.key on.separators r) false on at text (buffers named cells store report bytes known) c (buffers named' cells' store' report' bytes' known₁) y
     rule_acted l x y d = seen_visit (rule_seen (learnt_going l x)) y d.change d.beside (λ c' u v. refl)
 
-  pub rule_full : {named' : List Bool} {report : Text} {bytes₁ : Text} {known₁ : List ℕ} {x : Refusal} {y : Done} → Learning (learning on.separators r.action (text_in cells store at.index ∷ [])) on.sweep text bytes known c bytes₁ known₁ y → y ≡ Stopped x
-      → Visit (λ ks. rule_pass on.key on.separators r) false on at text (buffers named cells store report bytes known) c (buffers named' cells store report bytes₁ known₁) (Stopped x)
+  pub rule_full : {named' : List Bool} {report : Text} {bytes₁ : Text} {known₁ : List ℕ} {x : Refusal} {y : Result Counters Refusal} → Learning (learning on.separators r.action (text_in cells store at.index ∷ [])) on.sweep text bytes known c bytes₁ known₁ y → y ≡ Err x
+      → Visit (λ ks. rule_pass on.key on.separators r) false on at text (buffers named cells store report bytes known) c (buffers named' cells store report bytes₁ known₁) (Err x)
   rule_full l e = seen_full _ _ rule_said (learnt_stopped l e).out

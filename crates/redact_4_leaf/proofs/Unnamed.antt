@@ -1,25 +1,20 @@
 -- Laws of a visit to an unnamed leaf, by a posture or by the sweep. Assumes nothing.
-use mathlib.Core.Path.{◌≡◌, refl, sym, ap, ◌∙◌}
-use mathlib.Core.Bool.{Bool, true, false, cond}
-use mathlib.Core.List.{List, []}
-use mathlib.Core.Option.{Option, none, some}
-use Prim.Native.Nat.{ℕ, suc, ◌+◌, ◌-◌, ◌≤◌}
-use native.Mathlib.Omega.{arith}
-use lib.ListN.{length, take, drop}
+use Rattle.std.proofs.Common.{◌≡◌, refl, sym, ap, ◌∙◌, Bool, true, false, cond, List, [], ℕ, suc, ◌+◌, ◌-◌, ◌≤◌, ◌<◌, length, take, drop, Some, None, Result, Ok}
+use Rattle.std.proofs.Common.{Option as Maybe}
+use Rattle.std.proofs.Math.Option.{Option, none, some}
 use Rattle.text.specs.Text.{Text, part, SameTo}
 use Rattle.text.proofs.Runs.{part_slice}
 use Rattle.text.proofs.Kept.{same_all, same_then}
 use Rattle.er7.specs.declared.message.Place.{Place}
 use Rattle.er7.specs.declared.separators.Separators.{Separators}
-use Rattle.er7_redact.specs.Action.{Action, keep, as_action, ActionHeld}
+use Rattle.er7_redact.specs.Action.{Action, keep, as_action}
 use Rattle.message_model.specs.Message.{Leaf, leaf, Label}
 use Rattle.run_model.specs.Redact.{after, for_sweep, act, act_or, row, changing, changing_or, is_unnamed, unnamed_leaf, unnamed_events, Known, after_events, stays}
 use Rattle.er7_table.specs.Table.{cell, list_of, place_at, leaf_at, as_label}
 use Rattle.redact_5_act.specs.Known.{action_at, swept_in, Swept}
 use Rattle.redact_5_act.specs.declared.state.Setting.{Setting}
 use Rattle.redact_5_act.specs.declared.state.Counters.{Counters}
-use Rattle.redact_5_act.specs.declared.state.Done.{Done}
-use Rattle.redact_5_act.specs.declared.state.Done.TheVariants.{Going}
+use Rattle.refusal.specs.declared.Refusal.{Refusal}
 use Rattle.redact_4_leaf.specs.Walk.{Pass}
 use Rattle.redact_4_leaf.specs.State.{buffers, text_in, marked, known_now, KnownHeld, LearntTo, Ready, ActedOn}
 use Rattle.redact_4_leaf.specs.Visit.{unnamed_pass, said_of, Visit}
@@ -82,15 +77,15 @@ module _ (on : Setting) (at : Spot) (text : Text) (named : List Bool) (cells : L
     unnamed_seen = record { live = ready_live w; few = few; learnt = nothing_learnt; marks = λ j ne. refl; said = unnamed_said; leaf = unnamed_leaf_lem }
 
     -- with work behind what is known before it
-    pub unnamed_acted : {bytes₁ : Text} → SameTo c.known_used bytes bytes₁ → {cells' : List ℕ} {store' report' bytes' : Text} (r : Done)
+    pub unnamed_acted : {bytes₁ : Text} → SameTo c.known_used bytes bytes₁ → {cells' : List ℕ} {store' report' bytes' : Text} (r : Result Counters Refusal)
         → ActedOn (act on.key on.separators a here) (row (as_label at.label) (place_at cells at.index) a) on.leaves at.index cells store report bytes₁ c cells' store' report' bytes' r
         → Visit P false on at text (buffers named cells store report bytes known) c (buffers named cells' store' report' bytes' known) r
     unnamed_acted k r d = seen_visit unnamed_seen r d.change (same_then k d.beside) (λ c' x y. ap P (known_same h (same_then k d.beside) c' y))
 
   -- there is none
   pub unnamed_none : {bytes' : Text} → pick (known_now text bytes known c) here ≡ none → SameTo c.known_used bytes bytes'
-      → Visit P false on at text (buffers named cells store report bytes known) c (buffers named cells store report bytes' known) (Going c)
-  unnamed_none q k = seen_visit still (Going c) (record { out = stayed (ready_live w) false _ _ (refl, same_all) }) k (λ c' x y. ap P (known_same h k c' y))
+      → Visit P false on at text (buffers named cells store report bytes known) c (buffers named cells store report bytes' known) (Ok c)
+  unnamed_none q k = seen_visit still (Ok c) (record { out = stayed (ready_live w) false _ _ (refl, same_all) }) k (λ c' x y. ap P (known_same h k c' y))
     where
       silent : said_of (P (known_now text bytes known c)) (as_label at.label) at.end (leaf_at (marked named) cells store) at.index ≡ []
       silent = unfold said_of unnamed_pass leaf_at in rw (live_text cells store at.index w.live) (pick_none on.key on.separators (pick (known_now text bytes known c)) (as_label at.label) (place_at cells at.index) (marked named at.index) here behind q).1
@@ -105,20 +100,16 @@ module _ (on : Setting) (at : Spot) (text : Text) (named : List Bool) (cells : L
         leaf = unfold after unnamed_pass leaf_at in rw (live_text cells store at.index w.live) (sym (pick_none on.key on.separators (pick (known_now text bytes known c)) (as_label at.label) (place_at cells at.index) (marked named at.index) here behind q).0);
       }
 
--- what the sweep takes for a leaf, by the row that the code found for the counters that it read
-module _ (s : Separators) (text : Text) {bytes bytes' : Text} {known : List ℕ} {c₀ : Counters} (c : Counters) (e : c ≡ c₀) (store : Text) (start len : ℕ) {r : ℕ}
-    (f : Swept s (take (start + len - start) (drop start store)) bytes bytes' known c.known c.known_used r) where
-  pub swept_none : r ≡ c.known → for_sweep s (known_now text bytes known c₀) (part store start len) ≡ none
+-- what the sweep takes for a leaf, by the row that was found
+module _ (s : Separators) {bytes bytes' : Text} {known : List ℕ} (c : Counters) (store : Text) (start len : ℕ) {r : Maybe ℕ}
+    (f : Swept s (take (start + len - start) (drop start store)) bytes bytes' known c.known c.known_used r) (text : Text) where
+  pub swept_none : r ≡ None → for_sweep s (known_now text bytes known c) (part store start len) ≡ none
   unfolding known_now swept_in
-  swept_none q = rw (← e, ← part_slice store start len) (f.found.missed q text)
+  swept_none q = rw (← part_slice store start len) ((rw q at f).found.out text)
 
-  pub swept_some : (r ≡ c.known → ⊥) → for_sweep s (known_now text bytes known c₀) (part store start len) ≡ some (as_action text (action_at known r))
+  pub swept_some : {k : ℕ} → r ≡ Some k → for_sweep s (known_now text bytes known c) (part store start len) ≡ some (as_action text (action_at known k))
   unfolding known_now swept_in
-  swept_some q = rw (← e, ← part_slice store start len) (f.found.found (omega (arith, f.found.high)) text)
+  swept_some q = rw (← part_slice store start len) ((rw q at f).found.out.1 text)
 
-module _ {s : Separators} {t bytes bytes' : Text} {known : List ℕ} {c₀ c : Counters} (e : c ≡ c₀) {r : ℕ} (f : Swept s t bytes bytes' known c.known c.known_used r) where
-  pub swept_beside : SameTo c₀.known_used bytes bytes'
-  swept_beside = rw (← e) f.beside
-
-  pub swept_held : {text : Text} → (r ≡ c.known → ⊥) → KnownHeld text bytes known c₀ → ActionHeld text (action_at known r)
-  swept_held q h = (rw (← e) at h).held.held r (omega (arith, f.found.high))
+pub swept_row : {s : Separators} {t bytes bytes' : Text} {known : List ℕ} {n used k : ℕ} {r : Maybe ℕ} → Swept s t bytes bytes' known n used r → r ≡ Some k → k < n
+swept_row f q = (rw q at f).found.out.0

@@ -1,4 +1,5 @@
 -- Laws of a visit to a leaf. Assumes nothing.
+use Rattle.std.proofs.Common.{Result, Ok, Err}
 use mathlib.Core.Path.{◌≡◌, refl, sym, ap, ◌∙◌}
 use mathlib.Core.Bool.{Bool, true, false}
 use mathlib.Core.List.{List, ◌++◌}
@@ -14,8 +15,7 @@ use Rattle.er7_table.specs.Table.{list_of, place_at, leaf_at, as_label}
 use Rattle.redact_5_act.proofs.Learning.{known_same as rows_same, good_same}
 use Rattle.redact_5_act.specs.declared.state.Setting.{Setting}
 use Rattle.redact_5_act.specs.declared.state.Counters.{Counters}
-use Rattle.redact_5_act.specs.declared.state.Done.{Done}
-use Rattle.redact_5_act.specs.declared.state.Done.TheVariants.{Going, Stopped}
+use Rattle.refusal.specs.declared.Refusal.{Refusal}
 use Rattle.redact_4_leaf.specs.Walk.{Pass}
 use Rattle.redact_4_leaf.specs.State.{Buffers, buffers, marked, Marked, text_in, known_now, KnownHeld, Recorded, LearntTo, Changed, Change}
 use Rattle.redact_4_leaf.specs.Visit.{said_of, Visited, Visit}
@@ -100,17 +100,17 @@ module _ {P : List Known → Pass} {on : Setting} {at : Spot} {text : Text} {nam
       (f on.sweep (known_now text bytes₁ known' c₁) _ (w.learnt.progress report b x))
 
   -- by the answer
-  pub seen_visit : {node : Bool} {cells' : List ℕ} {report store' report' bytes' : Text} (r : Done) → Change node F ρ went on.leaves at.index cells store report c₁ cells' store' report' r → SameTo c₁.known_used bytes₁ bytes'
-      → ((c' : Counters) → r ≡ Going c' → c'.known ≡ c₁.known → P (known_now text bytes' known' c') ≡ P (known_now text bytes known c))
+  pub seen_visit : {node : Bool} {cells' : List ℕ} {report store' report' bytes' : Text} (r : Result Counters Refusal) → Change node F ρ went on.leaves at.index cells store report c₁ cells' store' report' r → SameTo c₁.known_used bytes₁ bytes'
+      → ((c' : Counters) → r ≡ Ok c' → c'.known ≡ c₁.known → P (known_now text bytes' known' c') ≡ P (known_now text bytes known c))
       → Visit P node on at text (buffers named cells store report bytes known) c (buffers named' cells' store' report' bytes' known') r
-  seen_visit (Going c') d k p = record { out = seen_visited d.out k (p c' refl d.out.known) }
-  seen_visit {report = report} (Stopped x) d k p = record { out = seen_stopped report d.out }
+  seen_visit (Ok c') d k p = record { out = seen_visited d.out k (p c' refl d.out.known) }
+  seen_visit {report = report} (Err x) d k p = record { out = seen_stopped report d.out }
 
 -- learning alone refused it
 pub seen_full : {P : List Known → Pass} {node : Bool} {on : Setting} {at : Spot} {text : Text} {named : List Bool} {cells : List ℕ} {store report bytes : Text} {known : List ℕ} {c : Counters} {β' : Buffers} (es fs : List Event) {x : Refusal}
     → said_of (P (known_now text bytes known c)) (as_label at.label) at.end (leaf_at (marked named) cells store) at.index ≡ es ++ fs
     → ((report : Text) (b : Progress) → Recorded (known_now text bytes known c) report c b → after_events on.sweep es b ≡ stopped x)
-    → Visit P node on at text (buffers named cells store report bytes known) c β' (Stopped x)
+    → Visit P node on at text (buffers named cells store report bytes known) c β' (Err x)
 seen_full {on = on} {report = report} es fs {x} e f = record {
   out = λ b k. rw (e, progress_append on.sweep es fs b) (ap (after_events on.sweep fs) (f report b k) ∙ stopped_stays on.sweep fs x);
 }

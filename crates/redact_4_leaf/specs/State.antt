@@ -1,5 +1,5 @@
 -- What a run's counters and buffers stand for. Assumes nothing: these are definitions.
-use Rattle.std.specs.Prelude.{◌≡◌, Bool, true, false, List, ℕ, ◌+◌, ◌-◌, ◌*◌, ◌≤◌, ◌<◌, ◌^◌, length, get_or, set}
+use Rattle.std.specs.Prelude.{◌≡◌, Bool, true, false, List, ℕ, ◌+◌, ◌-◌, ◌*◌, ◌≤◌, ◌<◌, ◌^◌, length, get_or, set, Result, Ok, Err}
 use Rattle.text.specs.Text.{Text, part, SameTo}
 use Rattle.message_model.specs.Message.{Leaf}
 use Rattle.run_model.specs.Redact.{Effect, after, Row, Event, changing, Known, Progress, running, stopped, after_events, print_row}
@@ -9,8 +9,7 @@ use Rattle.redact_6_row.specs.Report.{RowAt, Reported}
 use Rattle.redact_5_act.specs.Act.{ActRoom}
 use Rattle.redact_5_act.specs.Known.{known_from, GoodKnown, ActionsHeld}
 use Rattle.redact_5_act.specs.declared.state.Counters.{Counters}
-use Rattle.redact_5_act.specs.declared.state.Done.{Done}
-use Rattle.redact_5_act.specs.declared.state.Done.TheVariants.{Going, Stopped}
+use Rattle.refusal.specs.declared.Refusal.{Refusal}
 use Rattle.refusal.specs.Limits.{LEAVES_MAX, TEXT_MAX}
 
 -- what the buffers of a run hold
@@ -89,12 +88,12 @@ pub record LearntTo (es : List Event) (sweep : Bool) (text bytes : Text) (known 
   pub held : KnownHeld text bytes' known' c'
   pub progress : (report : Text) (b : Progress) → Recorded (known_now text bytes known c) report c b → Recorded (known_now text bytes' known' c') report c' (after_events sweep es b)
 
-abbrev pub LearntOr : List Event → Bool → Text → Text → List ℕ → Counters → Text → List ℕ → Done → Type 0
-LearntOr es sweep text bytes known c bytes' known' (Going c') = LearntTo es sweep text bytes known c bytes' known' c'
-LearntOr es sweep text bytes known c bytes' known' (Stopped e) =
+abbrev pub LearntOr : List Event → Bool → Text → Text → List ℕ → Counters → Text → List ℕ → Result Counters Refusal → Type 0
+LearntOr es sweep text bytes known c bytes' known' (Ok c') = LearntTo es sweep text bytes known c bytes' known' c'
+LearntOr es sweep text bytes known c bytes' known' (Err e) =
     (report : Text) (b : Progress) → Recorded (known_now text bytes known c) report c b → after_events sweep es b ≡ stopped e
 
-pub record Learning (es : List Event) (sweep : Bool) (text bytes : Text) (known : List ℕ) (c : Counters) (bytes' : Text) (known' : List ℕ) (r : Done) : Type 0 where
+pub record Learning (es : List Event) (sweep : Bool) (text bytes : Text) (known : List ℕ) (c : Counters) (bytes' : Text) (known' : List ℕ) (r : Result Counters Refusal) : Type 0 where
   pub out : LearntOr es sweep text bytes known c bytes' known' r
 
 -- the text of leaf i, which has not vanished, may be learnt
@@ -155,18 +154,18 @@ pub record Changed (node : Bool) (F : Effect) (ρ : Row) (went n i : ℕ) (cells
   pub progress : (sweep : Bool) (ks : List Known) (b : Progress) → Recorded ks report c b → Recorded ks report' c' (after_events sweep (changing ρ went F) b)
 
 -- .. or the run was refused
-abbrev pub ChangedOr : Bool → Effect → Row → ℕ → ℕ → ℕ → List ℕ → Text → Text → Counters → List ℕ → Text → Text → Done → Type 0
-ChangedOr node F ρ went n i cells store report c cells' store' report' (Going c') = Changed node F ρ went n i cells store report c cells' store' report' c'
-ChangedOr node F ρ went n i cells store report c cells' store' report' (Stopped e) =
+abbrev pub ChangedOr : Bool → Effect → Row → ℕ → ℕ → ℕ → List ℕ → Text → Text → Counters → List ℕ → Text → Text → Result Counters Refusal → Type 0
+ChangedOr node F ρ went n i cells store report c cells' store' report' (Ok c') = Changed node F ρ went n i cells store report c cells' store' report' c'
+ChangedOr node F ρ went n i cells store report c cells' store' report' (Err e) =
     (sweep : Bool) (ks : List Known) (b : Progress) → Recorded ks report c b → after_events sweep (changing ρ went F) b ≡ stopped e
 
 pub record Change (node : Bool) (F : Effect) (ρ : Row) (went n i : ℕ) (cells : List ℕ) (store report : Text) (c : Counters)
-    (cells' : List ℕ) (store' report' : Text) (r : Done) : Type 0 where
+    (cells' : List ℕ) (store' report' : Text) (r : Result Counters Refusal) : Type 0 where
   pub out : ChangedOr node F ρ went n i cells store report c cells' store' report' r
 
 -- an action on leaf i, with work behind the learnt values
 pub record ActedOn (F : Effect) (ρ : Row) (n i : ℕ) (cells : List ℕ) (store report bytes : Text) (c : Counters)
-    (cells' : List ℕ) (store' report' bytes' : Text) (r : Done) : Type 0 where
+    (cells' : List ℕ) (store' report' bytes' : Text) (r : Result Counters Refusal) : Type 0 where
   pub change : Change false F ρ (cell cells i 2) n i cells store report c cells' store' report' r
   pub beside : SameTo c.known_used bytes bytes'
 

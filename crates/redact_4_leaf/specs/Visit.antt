@@ -1,5 +1,5 @@
 -- A leaf that a pass has visited: what became of it, and the progress. Assumes nothing: these are definitions.
-use Rattle.std.specs.Prelude.{◌≡◌, Bool, true, false, List, ℕ, suc, ◌+◌, ◌-◌, ◌≤◌, ◌<◌}
+use Rattle.std.specs.Prelude.{◌≡◌, Bool, true, false, List, ℕ, suc, ◌+◌, ◌-◌, ◌≤◌, ◌<◌, Result, Ok, Err}
 use Rattle.std.proofs.Math.Option.{Option}
 use Rattle.text.specs.Text.{Text}
 use Rattle.er7.specs.declared.separators.Separators.{Separators}
@@ -12,8 +12,7 @@ use Rattle.er7_render.specs.Stored.{live_len}
 use Rattle.er7_table.specs.Table.{as_label}
 use Rattle.redact_5_act.specs.declared.state.Setting.{Setting}
 use Rattle.redact_5_act.specs.declared.state.Counters.{Counters}
-use Rattle.redact_5_act.specs.declared.state.Done.{Done}
-use Rattle.redact_5_act.specs.declared.state.Done.TheVariants.{Going, Stopped}
+use Rattle.refusal.specs.declared.Refusal.{Refusal}
 use Rattle.redact_4_leaf.specs.Walk.{Pass}
 use Rattle.redact_4_leaf.specs.State.{Buffers, leaves, knowing, RecordedIn, Held, Kept}
 use Rattle.redact_4_leaf.specs.declared.leaf.Spot.{Spot}
@@ -47,10 +46,10 @@ pub record Visited (P : List Known → Pass) (node : Bool) (on : Setting) (at : 
   pub progress : (b : Progress) → RecordedIn text β c b → RecordedIn text β' c' (after_events on.sweep (said_of (P (knowing text β c)) (as_label at.label) at.end (leaves β) at.index) b)
 
 -- .. or the run was refused there
-abbrev pub VisitedOr : (List Known → Pass) → Bool → Setting → Spot → Text → Buffers → Counters → Buffers → Done → Type 0
-VisitedOr P node on at text β c β' (Going c') = Visited P node on at text β c β' c'
-VisitedOr P node on at text β c β' (Stopped e) =
+abbrev pub VisitedOr : (List Known → Pass) → Bool → Setting → Spot → Text → Buffers → Counters → Buffers → Result Counters Refusal → Type 0
+VisitedOr P node on at text β c β' (Ok c') = Visited P node on at text β c β' c'
+VisitedOr P node on at text β c β' (Err e) =
     (b : Progress) → RecordedIn text β c b → after_events on.sweep (said_of (P (knowing text β c)) (as_label at.label) at.end (leaves β) at.index) b ≡ stopped e
 
-pub record Visit (P : List Known → Pass) (node : Bool) (on : Setting) (at : Spot) (text : Text) (β : Buffers) (c : Counters) (β' : Buffers) (r : Done) : Type 0 where
+pub record Visit (P : List Known → Pass) (node : Bool) (on : Setting) (at : Spot) (text : Text) (β : Buffers) (c : Counters) (β' : Buffers) (r : Result Counters Refusal) : Type 0 where
   pub out : VisitedOr P node on at text β c β' r

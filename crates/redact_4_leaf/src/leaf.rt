@@ -4,7 +4,7 @@ ghost use Rattle.er7_redact.specs.Action.{as_action, ActionHeld};
 ghost use Rattle.run_model.specs.Redact.{row};
 ghost use Rattle.run_model.specs.Redact as Redact;
 ghost use Rattle.er7_table.specs.Table.{place_at, as_label};
-ghost use Rattle.redact_5_act.specs.State.{counted, after_step};
+ghost use Rattle.redact_5_act.specs.State.{after_step};
 ghost use Rattle.redact_4_leaf.specs.State.{text_in, Ready, Countable, ChangePut, Marked, ActedOn};
 ghost use Rattle.refusal.specs.Limits.{INPUT_MAX};
 
@@ -12,8 +12,8 @@ use er7::message::Label;
 use er7_redact::action::Action;
 use er7_render::store::set_text;
 use er7_table::table::place_at;
-use redact_5_act::act::{Effect, act};
-use redact_5_act::state::{Counters, Setting, Step, read_tally, saturating_sub, write_tally};
+use redact_5_act::act::act;
+use redact_5_act::state::{Counters, Setting};
 use redact_6_row::report::row_at;
 use refusal::Refusal;
 
@@ -42,29 +42,22 @@ pub fn put_change(
     came: usize,
     cells: &mut [usize],
     report: &mut [u8],
-    tally: &mut [usize; 6],
+    counters: &mut Counters,
 )
-    requires { ActionHeld text.now a × (at.index * 8 + 8 ≤ length cells.old) × Countable came (counted tally.old) × (length text.now ≤ INPUT_MAX) }
-    ensures { ChangePut (row (as_label at.label) (place_at cells.old at.index) (as_action text.now a)) at.index went came cells.old report.old (counted tally.old) cells.new report.new (counted tally.new) }
+    requires { ActionHeld text.now a × (at.index * 8 + 8 ≤ length cells.old) × Countable came counters.old × (length text.now ≤ INPUT_MAX) }
+    ensures { ChangePut (row (as_label at.label) (place_at cells.old at.index) (as_action text.now a)) at.index went came cells.old report.old counters.old cells.new report.new counters.new }
 {
-    let c = read_tally(tally);
-    let used = c.used;
+    let c = *counters;
     let i = at.index;
     let p = place_at(cells, i);
-    set_text(cells, i, used, came);
-    let report_len = row_at(report, c.report_len, at.label, p, a, text);
-    let size = saturating_sub(c.size, went) + came;
-    write_tally(
-        tally,
-        Counters {
-            rows: c.rows + 1,
-            report_len,
-            size,
-            used: used + came,
-            known: c.known,
-            known_used: c.known_used,
-        },
-    );
+    set_text(cells, i, c.used, came);
+    *counters = Counters {
+        rows: c.rows + 1,
+        report_len: row_at(report, c.report_len, at.label, p, a, text),
+        size: c.size.saturating_sub(went) + came,
+        used: c.used + came,
+        ..c
+    };
 }
 
 // The action a on a leaf: its new text, and its row.
@@ -77,20 +70,16 @@ pub fn act_on(
     store: &mut [u8; 98304],
     report: &mut [u8],
     bytes: &mut [u8; 65536],
-    tally: &mut [usize; 6],
-) -> Step
-    requires { ActionHeld text.now a × Ready cells.old store.old on.leaves at.index (counted tally.old) × (length text.now ≤ INPUT_MAX) }
-    ensures { ActedOn (Redact.act on.key on.separators (as_action text.now a) (text_in cells.old store.old at.index)) (row (as_label at.label) (place_at cells.old at.index) (as_action text.now a)) on.leaves at.index cells.old store.old report.old bytes.old (counted tally.old) cells.new store.new report.new bytes.new (after_step (counted tally.new) result) }
+    counters: &mut Counters,
+) -> Result<(), Refusal>
+    requires { ActionHeld text.now a × Ready cells.old store.old on.leaves at.index counters.old × (length text.now ≤ INPUT_MAX) }
+    ensures { ActedOn (Redact.act on.key on.separators (as_action text.now a) (text_in cells.old store.old at.index)) (row (as_label at.label) (place_at cells.old at.index) (as_action text.now a)) on.leaves at.index cells.old store.old report.old bytes.old counters.old cells.new store.new report.new bytes.new (after_step counters.new result) }
 {
     let row = at.index * 8;
     let start = cells[row + 1];
     let len = cells[row + 2];
-    match act(on, a, text, start, len, store, bytes, read_tally(tally)) {
-        Effect::Stays => Step::Made,
-        Effect::Becomes(came) => {
-            put_change(at, a, text, len, came, cells, report, tally);
-            Step::Made
-        }
-        Effect::TooLong => Step::Refused(Refusal::MessageTooLong),
+    if let Some(came) = act(on, a, text, start, len, store, bytes, *counters)? {
+        put_change(at, a, text, len, came, cells, report, counters);
     }
+    Ok(())
 }

@@ -3,12 +3,12 @@ ghost use Rattle.std.specs.Prelude.{[], ◌∷◌};
 ghost use Rattle.text.specs.Text.{Text};
 ghost use Rattle.er7_redact.specs.Action.{as_action, ActionHeld};
 ghost use Rattle.run_model.specs.Redact.{learning};
-ghost use Rattle.redact_5_act.specs.State.{counted, after_step};
+ghost use Rattle.redact_5_act.specs.State.{after_step};
 ghost use Rattle.redact_4_leaf.specs.State.{text_in, KnownHeld, Learning, Readable};
 
 use er7_redact::action::Action;
-use redact_5_act::known::{KNOWN_CELLS, Learnt, learn_leaf};
-use redact_5_act::state::{Counters, Setting, Step, read_tally, write_tally};
+use redact_5_act::known::{KNOWN_CELLS, learn_leaf};
+use redact_5_act::state::{Counters, Setting};
 use refusal::Refusal;
 
 // Learns what leaf i says, with the action a, if there is to be a sweep.
@@ -20,42 +20,31 @@ pub fn learn_at(
     store: &[u8; 98304],
     bytes: &mut [u8; 65536],
     known: &mut [usize; KNOWN_CELLS],
-    tally: &mut [usize; 6],
-) -> Step
-    requires { Readable cells.now bytes.old known.old i (counted tally.old) }
-    ensures { (text : Text) → ActionHeld text a → KnownHeld text bytes.old known.old (counted tally.old) → Learning (learning on.separators (as_action text a) (text_in cells.now store.now i ∷ [])) on.sweep text bytes.old known.old (counted tally.old) bytes.new known.new (after_step (counted tally.new) result) }
+    counters: &mut Counters,
+) -> Result<(), Refusal>
+    requires { Readable cells.now bytes.old known.old i counters.old }
+    ensures { (text : Text) → ActionHeld text a → KnownHeld text bytes.old known.old counters.old → Learning (learning on.separators (as_action text a) (text_in cells.now store.now i ∷ [])) on.sweep text bytes.old known.old counters.old bytes.new known.new (after_step counters.new result) }
 {
     if !on.sweep {
-        return Step::Made;
+        return Ok(());
     }
-    let c = read_tally(tally);
+    let c = *counters;
     let at = i * 8;
     let start = cells[at + 1];
     let end = start + cells[at + 2];
-    let all = &store[..];
-    match learn_leaf(
+    let (count, used) = learn_leaf(
         a,
         on.separators,
-        &all[start..end],
+        &store[start..end],
         bytes,
         known,
         c.known,
         c.known_used,
-    ) {
-        Learnt::Kept(count, used) => {
-            write_tally(
-                tally,
-                Counters {
-                    rows: c.rows,
-                    report_len: c.report_len,
-                    size: c.size,
-                    used: c.used,
-                    known: count,
-                    known_used: used,
-                },
-            );
-            Step::Made
-        }
-        Learnt::Full => Step::Refused(Refusal::TooMuchLearnt),
-    }
+    )?;
+    *counters = Counters {
+        known: count,
+        known_used: used,
+        ..c
+    };
+    Ok(())
 }

@@ -4,7 +4,7 @@ ghost use Rattle.er7_redact.specs.Action.{ActionHeld};
 ghost use Rattle.er7_redact.specs.Policy.{as_rule};
 ghost use Rattle.run_model.specs.Redact.{reach, each_leaf, covers, for_sweep, is_unnamed};
 ghost use Rattle.er7_table.specs.Table.{place_at, as_label};
-ghost use Rattle.redact_5_act.specs.State.{counted, after_step};
+ghost use Rattle.redact_5_act.specs.State.{after_step};
 ghost use Rattle.redact_4_leaf.specs.State.{buffers, marked, KnownHeld, Ready, Marked};
 ghost use Rattle.redact_4_leaf.specs.Visit.{rule_pass, unnamed_pass, Visit};
 ghost use Rattle.refusal.specs.Limits.{INPUT_MAX, LEAVES_MAX};
@@ -14,7 +14,8 @@ use super::learn::learn_at;
 use er7_redact::action::is_keep;
 use er7_redact::policy::Rule;
 use redact_5_act::known::{KNOWN_CELLS, action_at, for_sweep};
-use redact_5_act::state::{Setting, Step, read_tally};
+use redact_5_act::state::{Counters, Setting};
+use refusal::Refusal;
 
 // A rule that acts on each leaf, on a leaf that it covers and that is named by now: unless it is kept, it is learnt and acted on.
 pub fn apply_leaf(
@@ -27,19 +28,17 @@ pub fn apply_leaf(
     report: &mut [u8],
     bytes: &mut [u8; 65536],
     known: &mut [usize; KNOWN_CELLS],
-    tally: &mut [usize; 6],
-) -> Step
-    requires { ActionHeld text.now rule.action × (reach (as_rule text.now rule) ≡ each_leaf) × (covers (as_rule text.now rule) (as_label at.label) (place_at cells.old at.index) ≡ true) × Ready cells.old store.old on.leaves at.index (counted tally.old) × KnownHeld text.now bytes.old known.old (counted tally.old) × (length text.now ≤ INPUT_MAX) × (on.leaves ≤ LEAVES_MAX) }
-    ensures { (named named' : List Bool) → Marked named at.index named' → Visit (λ ks. rule_pass on.key on.separators (as_rule text.now rule)) false on at text.now (buffers named cells.old store.old report.old bytes.old known.old) (counted tally.old) (buffers named' cells.new store.new report.new bytes.new known.new) (after_step (counted tally.new) result) }
+    counters: &mut Counters,
+) -> Result<(), Refusal>
+    requires { ActionHeld text.now rule.action × (reach (as_rule text.now rule) ≡ each_leaf) × (covers (as_rule text.now rule) (as_label at.label) (place_at cells.old at.index) ≡ true) × Ready cells.old store.old on.leaves at.index counters.old × KnownHeld text.now bytes.old known.old counters.old × (length text.now ≤ INPUT_MAX) × (on.leaves ≤ LEAVES_MAX) }
+    ensures { (named named' : List Bool) → Marked named at.index named' → Visit (λ ks. rule_pass on.key on.separators (as_rule text.now rule)) false on at text.now (buffers named cells.old store.old report.old bytes.old known.old) counters.old (buffers named' cells.new store.new report.new bytes.new known.new) (after_step counters.new result) }
 {
     let a = rule.action;
     if is_keep(a) {
-        return Step::Made;
+        return Ok(());
     }
-    match learn_at(on, a, at.index, cells, store, bytes, known, tally) {
-        Step::Made => act_on(on, at, a, text, cells, store, report, bytes, tally),
-        Step::Refused(refusal) => Step::Refused(refusal),
-    }
+    learn_at(on, a, at.index, cells, store, bytes, known, counters)?;
+    act_on(on, at, a, text, cells, store, report, bytes, counters)
 }
 
 // The sweep on a leaf that is not named: the action of the longest learnt value that is a whole word of it.
@@ -52,27 +51,25 @@ pub fn sweep_leaf(
     report: &mut [u8],
     bytes: &mut [u8; 65536],
     known: &[usize; KNOWN_CELLS],
-    tally: &mut [usize; 6],
-) -> Step
-    requires { KnownHeld text.now bytes.old known.now (counted tally.old) × Ready cells.old store.old on.leaves at.index (counted tally.old) × (length text.now ≤ INPUT_MAX) × (on.leaves ≤ LEAVES_MAX) }
-    ensures { (named : List Bool) → is_unnamed (as_label at.label) (place_at cells.old at.index) (marked named at.index) ≡ true → Visit (λ ks. unnamed_pass on.key on.separators (for_sweep on.separators ks)) false on at text.now (buffers named cells.old store.old report.old bytes.old known.now) (counted tally.old) (buffers named cells.new store.new report.new bytes.new known.now) (after_step (counted tally.new) result) }
+    counters: &mut Counters,
+) -> Result<(), Refusal>
+    requires { KnownHeld text.now bytes.old known.now counters.old × Ready cells.old store.old on.leaves at.index counters.old × (length text.now ≤ INPUT_MAX) × (on.leaves ≤ LEAVES_MAX) }
+    ensures { (named : List Bool) → is_unnamed (as_label at.label) (place_at cells.old at.index) (marked named at.index) ≡ true → Visit (λ ks. unnamed_pass on.key on.separators (for_sweep on.separators ks)) false on at text.now (buffers named cells.old store.old report.old bytes.old known.now) counters.old (buffers named cells.new store.new report.new bytes.new known.now) (after_step counters.new result) }
 {
-    let c = read_tally(tally);
+    let c = *counters;
     let row = at.index * 8;
     let start = cells[row + 1];
     let end = start + cells[row + 2];
-    let all = &store[..];
-    let k = for_sweep(
+    let Some(k) = for_sweep(
         on.separators,
-        &all[start..end],
+        &store[start..end],
         bytes,
         known,
         c.known,
         c.known_used,
-    );
-    if k == c.known {
-        return Step::Made;
-    }
+    ) else {
+        return Ok(());
+    };
     let a = action_at(known, k);
-    act_on(on, at, a, text, cells, store, report, bytes, tally)
+    act_on(on, at, a, text, cells, store, report, bytes, counters)
 }

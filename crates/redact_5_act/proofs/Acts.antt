@@ -1,25 +1,18 @@
 -- Laws of an action on one leaf. Assumes nothing.
-use mathlib.Core.Path.{◌≡◌, refl, sym, ap, ◌∙◌}
-use mathlib.Core.Bool.{Bool, true, false}
-use mathlib.Core.Option.{Option, some}
-use Prim.Native.Nat.{ℕ, ◌+◌, ◌-◌, ◌≤◌, ◌<◌}
-use native.Mathlib.Omega.{arith}
-use borrow.Author.Tests.{ltb-true, ltb-false}
-use lib.ListN.{length, length-take}
-use lib.Dec.{ltb}
+use Rattle.std.proofs.Common.{◌≡◌, refl, sym, ap, ◌∙◌, Bool, true, false, ℕ, ◌+◌, ◌-◌, ◌≤◌, ◌<◌, ltb, ltb-true, ltb-false, length, length-take, arith, Some, None, Result, Ok, Err}
+use Rattle.std.proofs.Common.{Option as Maybe}
+use Rattle.std.proofs.Math.Option.{Option, some}
 use Rattle.text.specs.Text.{Text, same, part, between, Wrote, SameTo, StandsAt}
 use Rattle.text.proofs.Kept.{same_all, same_then, part_length, wrote_between, wrote_stands, stands_same}
 use Rattle.text.proofs.Words.{same_eq}
 use Rattle.er7.specs.declared.separators.Separators.{Separators}
-use Rattle.er7_redact.specs.declared.action.Applied.TheVariants.{Written, Nothing}
 use Rattle.er7_redact.specs.Action.{Action, is_null_action, apply, answer, written}
 use Rattle.er7_redact.proofs.Actions.{room_written, answered_nothing, answered_text, answered_room, answered_length}
 use Rattle.er7_value.proofs.Decoding.{value_length}
 use Rattle.er7_value.proofs.Encoding.{encode_length, encode_same}
 use Rattle.message_model.specs.Value.{is_null, is_empty_or_null, encode, NULL, value}
 use Rattle.run_model.specs.Redact.{Effect, stays, becomes, replaced, act}
-use Rattle.redact_5_act.specs.declared.act.Effect.{Effect as HeldEffect}
-use Rattle.redact_5_act.specs.declared.act.Effect.TheVariants.{Stays, Becomes, TooLong}
+use Rattle.refusal.specs.declared.Refusal.{Refusal}
 use Rattle.redact_5_act.specs.declared.state.Counters.{Counters}
 use Rattle.redact_5_act.specs.Act.{Became, Overran, ActedOr, Acted, ActedBeside, ActRoom}
 use Rattle.redact_5_act.specs.Inner.{nulled, on_value, decoded_at, Decoded, Fits}
@@ -41,22 +34,22 @@ module _ {went : ℕ} {c : Counters} (w : Text) {n : ℕ} (e : n ≡ length w) w
   became q g = record { text = w; is = refl; long = e; few = ltb-false TEXT_MAX (c.size - went + n) q; stands = g }
 
 -- the same effect by another definition
-pub acted_as : {f g : Effect} {went : ℕ} {c : Counters} {d d' : Text} {r : HeldEffect} → f ≡ g → Acted g went c d d' r → Acted f went c d d' r
+pub acted_as : {f g : Effect} {went : ℕ} {c : Counters} {d d' : Text} {r : Result (Maybe ℕ) Refusal} → f ≡ g → Acted g went c d d' r → Acted f went c d d' r
 acted_as e h = rw e h
 
 -- .. where the store has changed behind what is kept of it
-or_as : {f g : Effect} (went : ℕ) (c : Counters) {d e : Text} (d' : Text) → f ≡ g → SameTo c.used d e → (r : HeldEffect) → ActedOr g went c e d' r → ActedOr f went c d d' r
-or_as went c d' p q Stays h = (p ∙ h.0, same_then q h.1)
-or_as went c d' p q (Becomes n) h = record { text = h.text; is = p ∙ h.is; long = h.long; few = h.few; stands = stands_same q h.stands }
-or_as went c d' p q TooLong h = record { text = h.text; is = p ∙ h.is; over = h.over }
+or_as : {f g : Effect} (went : ℕ) (c : Counters) {d e : Text} (d' : Text) → f ≡ g → SameTo c.used d e → (r : Result (Maybe ℕ) Refusal) → ActedOr g went c e d' r → ActedOr f went c d d' r
+or_as went c d' p q (Ok None) h = (p ∙ h.0, same_then q h.1)
+or_as went c d' p q (Ok (Some n)) h = record { text = h.text; is = p ∙ h.is; long = h.long; few = h.few; stands = stands_same q h.stands }
+or_as went c d' p q (Err x) h = (h.0, record { text = h.1.text; is = p ∙ h.1.is; over = h.1.over })
 
 -- .. and so have the bytes
-pub beside_as : {f g : Effect} {went : ℕ} {c : Counters} {d e d' b b₁ b₂ : Text} {r : HeldEffect} → f ≡ g → SameTo c.used d e → SameTo c.known_used b b₁
+pub beside_as : {f g : Effect} {went : ℕ} {c : Counters} {d e d' b b₁ b₂ : Text} {r : Result (Maybe ℕ) Refusal} → f ≡ g → SameTo c.used d e → SameTo c.known_used b b₁
     → ActedBeside g went c e d' b₁ b₂ r → ActedBeside f went c d d' b b₂ r
 beside_as {r = r} p q s h = record { out = or_as _ _ _ p q r h.out; beside = same_then s h.beside }
 
 -- where no bytes are for work
-pub acted_beside : {f g : Effect} {went : ℕ} {c : Counters} {d d' b : Text} {r : HeldEffect} → f ≡ g → Acted g went c d d' r → ActedBeside f went c d d' b b r
+pub acted_beside : {f g : Effect} {went : ℕ} {c : Counters} {d d' b : Text} {r : Result (Maybe ℕ) Refusal} → f ≡ g → Acted g went c d d' r → ActedBeside f went c d d' b b r
 acted_beside {r = r} e h = record { out = or_as _ _ _ e same_all r h.out; beside = same_all }
 
 -- ---- a value whose delimiters are escaped: v, which was read as t, takes m bytes
@@ -108,11 +101,11 @@ module _ (s : Separators) (w v : Text) where
 
 -- what an action writes, or that it writes nothing
 module _ (s : Separators) (o : Option Text) (v : Text) where
-  pub replaced_none : answer o ≡ Nothing → replaced s o v ≡ stays
+  pub replaced_none : answer o ≡ None → replaced s o v ≡ stays
   unfolding replaced
   replaced_none e = rw (answered_nothing o e)
 
-  module _ {n : ℕ} (e : answer o ≡ Written n) where
+  module _ {n : ℕ} (e : answer o ≡ Some n) where
     pub replaced_some : replaced s o v ≡ replaced s (some (written o)) v
     replaced_some = ap (λ (x : Option Text). replaced s x v) (answered_text o e)
 
@@ -121,7 +114,7 @@ module _ (s : Separators) (o : Option Text) (v : Text) where
         let x = ltb-true TEXT_MAX (c.size - went + n) q in
         rw replaced_some (replaced_over s (written o) v l h.within h.most (omega (arith, answered_length o e)))
 
-pub applied_fits : (o : Option Text) {n went : ℕ} {c : Counters} → answer o ≡ Written n → ltb TEXT_MAX (c.size - went + n) ≡ false → Fits o went c
+pub applied_fits : (o : Option Text) {n went : ℕ} {c : Counters} → answer o ≡ Some n → ltb TEXT_MAX (c.size - went + n) ≡ false → Fits o went c
 applied_fits o {n} {went} {c} e q = let x = ltb-false TEXT_MAX (c.size - went + n) q in record { few = omega (arith, answered_room o e) }
 
 -- what was written of it stands in the store d' up to index r, and is read from there

@@ -1,21 +1,14 @@
 -- Laws of the learnt values. Assumes nothing.
-use mathlib.Core.Path.{◌≡◌, refl, sym, ap, ◌∙◌}
-use mathlib.Core.Bool.{Bool, true, false, cond, ◌||◌}
-use mathlib.Core.List.{List, [], ◌∷◌}
-use mathlib.Core.Option.{Option, some}
-use Prim.Native.Nat.{ℕ, zero, suc, ◌+◌, ◌-◌, ◌*◌, ◌≤◌, ◌<◌}
+use Rattle.std.proofs.Common.{◌≡◌, refl, sym, ap, ◌∙◌, Bool, true, false, cond, ◌||◌, List, [], ◌∷◌, ℕ, zero, suc, ◌+◌, ◌-◌, ◌*◌, ◌≤◌, ◌<◌, leb, ltb, length, get_or, take, drop, set, Some, None}
+use Rattle.std.proofs.Common.{arith, le-leb, leb-true, le-ltb, lt-ltb, length-take, length-set, get_or-set_same, get_or-set_other}
+use Rattle.std.proofs.Common.{Option as Maybe}
+use Rattle.std.proofs.Math.Option.{Option, some}
+use borrow.Author.Tests.{lt-leb}
 use native.Mathlib.Nat.{sub-zero}
-use mathlib.Core.Logic.{dite}
-use native.Mathlib.Decide.{ℕ_discrete}
-use native.Mathlib.Omega.{arith}
-use borrow.Author.Tests.{le-leb, lt-leb, leb-true, leb-false, le-ltb, lt-ltb}
-use lib.Dec.{leb, ltb}
-use lib.ListN.{length, get_or, take, drop, set, length-take, length-set}
-use lib.Seq.{get_or-set_same, get_or-set_other}
 use Rattle.text.specs.Text.{Text, same, part}
 use Rattle.text.proofs.Runs.{part_slice}
 use Rattle.text.proofs.Kept.{part_length}
-use Rattle.text.proofs.Laws.{and_left, and_right, and_false}
+use Rattle.text.proofs.Laws.{and_left, and_right, and_false, split}
 use Rattle.text.proofs.Words.{same_eq}
 use Rattle.er7_redact.specs.declared.action.Action.{Action as HeldAction}
 use Rattle.message_model.specs.Value.{is_whole_word}
@@ -25,11 +18,7 @@ use Rattle.er7_value.proofs.Starts.{word_unmarked}
 use Rattle.run_model.specs.Redact.{Known, knows, longer_of, longest_found}
 use Rattle.run_model.proofs.Chains.{cond_both}
 use Rattle.redact_5_act.specs.Known.{action_of, hash_of, value_at, action_at, known_at, known_from, Slot, Slots, GoodKnown}
-use Rattle.redact_5_act.specs.Inner.{first_marked, has_value, RowFound, LastFound, RowPut}
-
--- two answers that differ
-pub apart : {X : Type 0} → ◌≡◌ {A = ℕ} 0 1 → X
-apart e = absurd (omega arith)
+use Rattle.redact_5_act.specs.Inner.{first_marked, has_value, RowFound, RowPut}
 
 -- ---- lists of rows
 
@@ -129,133 +118,68 @@ module _ (v b : Text) (k : List ℕ) (least i : ℕ) where
   unfolding has_value
   has_found e = (leb-true least (get_or k (i * 8 + 2) 0) (and_left _ _ e), and_right (leb least (get_or k (i * 8 + 2) 0)) _ e)
 
--- ---- from the last row to the first
-
--- no row from row j to before row k has one
-pub record NoneFrom (v b : Text) (known : List ℕ) (least j k : ℕ) : Type 0 where
-  pub low : j ≤ k
-  pub none : (x : ℕ) → j ≤ x → x < k → has_value v b known least x ≡ false
-
-module _ {v b : Text} {known : List ℕ} {least k : ℕ} where
-  pub none_start : NoneFrom v b known least k k
-  none_start = record { low = omega arith; none = λ x h l. absurd (omega arith) }
-
-  pub none_more : {j : ℕ} → 0 < j → NoneFrom v b known least j k → has_value v b known least (j - 1) ≡ false → NoneFrom v b known least (j - 1) k
-  none_more {j} h g e = record {
-    low = omega (arith, g.low);
-    none = λ x l m. dite (ℕ_discrete x (j - 1)) (λ q. rw q e) (λ q. g.none x (omega arith) m);
-  }
-
-  pub none_end : {j : ℕ} → j ≡ 0 → NoneFrom v b known least j k → LastFound v b known least k k
-  none_end e g = record {
-    high = omega arith;
-    found = λ l. absurd (omega arith);
-    behind = λ l. absurd (omega arith);
-    missed = λ l x m. g.none x (omega arith) m;
-  }
-
-  pub last_row : {j : ℕ} → 0 < j → NoneFrom v b known least j k → has_value v b known least (j - 1) ≡ true → LastFound v b known least k (j - 1)
-  last_row h g e = record {
-    high = omega (arith, g.low);
-    found = λ l. e;
-    behind = λ l x m q. g.none x (omega arith) q;
-    missed = λ l. absurd (omega (arith, g.low));
-  }
-
 -- ---- the row that is picked
 
--- the least length of a value that is picked before that of the row `best`: any where `best` is no row
-pub record LeastOver (k : List ℕ) (n best least : ℕ) : Type 0 where
-  pub none : best ≡ n → least ≡ 0
-  pub row : best < n → least ≡ get_or k (best * 8 + 2) 0 + 1
+-- the least length of a value that is picked before that of the row `best`: any where there is no such row
+abbrev pub least_over : List ℕ → Maybe ℕ → ℕ
+least_over k None = 0
+least_over k (Some r) = get_or k (r * 8 + 2) 0 + 1
 
-module _ {v b : Text} {k : List ℕ} {n : ℕ} where
-  pub row_none : RowFound v b k n n n
-  unfolding longest_found
-  row_none = record { high = omega arith; found = λ l. absurd (omega arith); missed = λ l t. rw (known_none t b k n n (omega arith)) }
+pub row_none : {v b : Text} {k : List ℕ} {n : ℕ} → RowFound v b k n n None
+unfolding longest_found
+row_none {b = b} {k = k} {n = n} = record { out = λ t. rw (known_none t b k n n (omega arith)) }
 
-  -- row i, before the rows from which the row r is picked
-  module _ (i : ℕ) {r : ℕ} (g : RowFound v b k (i + 1) n r) (h : i < n) where
-    abbrev later : Text → Option Known
-    later t = longest_found (known_from t b k (i + 1) (n - (i + 1))) v
+-- row i, before the rows from which the row r is picked
+module _ (v b : Text) (k : List ℕ) (n i : ℕ) (h : i < n) where
+  abbrev later : Text → Option Known
+  later t = longest_found (known_from t b k (i + 1) (n - (i + 1))) v
 
-    next : (t : Text) → longest_found (known_from t b k i (n - i)) v ≡ cond (is_whole_word (value_at b k i) v) (longer_of (known_at t b k i) (later t)) (later t)
-    unfolding longest_found known_at
-    next t = ap (λ (ks : List Known). longest_found ks v) (known_next t b k i n h)
+  next : (t : Text) → longest_found (known_from t b k i (n - i)) v ≡ cond (is_whole_word (value_at b k i) v) (longer_of (known_at t b k i) (later t)) (later t)
+  unfolding longest_found known_at
+  next t = ap (λ (ks : List Known). longest_found ks v) (known_next t b k i n h)
 
-    row_passed : is_whole_word (value_at b k i) v ≡ false → RowFound v b k i n r
-    row_passed e = record {
-      high = g.high;
-      found = λ l t. next t ∙ rw e (g.found l t);
-      missed = λ l t. next t ∙ rw e (g.missed l t);
+  -- its value is no word
+  row_passed : is_whole_word (value_at b k i) v ≡ false → (r : Maybe ℕ) → RowFound v b k (i + 1) n r → RowFound v b k i n r
+  row_passed e None g = record { out = λ t. next t ∙ rw e (g.out t) }
+  row_passed e (Some r) g = record { out = (g.out.0, λ t. next t ∙ rw e (g.out.1 t)) }
+
+  module _ (l : length b ≡ 65536) (s : Slots b k n) where
+    -- of row i and the row r the longer one
+    longer_is : {r : ℕ} → RowFound v b k (i + 1) n (Some r) → (t : Text) → longer_of (known_at t b k i) (later t)
+        ≡ cond (ltb (get_or k (r * 8 + 2) 0) (get_or k (i * 8 + 2) 0)) (some (known_at t b k i)) (some (known_at t b k r))
+    unfolding longer_of known_at
+    longer_is {r} g t = rw (g.out.1 t, value_length l (s.slot i h), value_length l (s.slot r g.out.0))
+
+    row_shorter : {r : ℕ} → RowFound v b k (i + 1) n (Some r) → get_or k (i * 8 + 2) 0 ≤ get_or k (r * 8 + 2) 0 → RowFound v b k i n (Some r)
+    row_shorter {r} g e = record {
+      out = (g.out.0, λ t. next t ∙ rw (longer_is g t, le-ltb (get_or k (r * 8 + 2) 0) (get_or k (i * 8 + 2) 0) e, g.out.1 t) (cond_both (is_whole_word (value_at b k i) v) (some (known_at t b k r))));
     }
 
-    -- it is the first that is found
-    row_last : r ≡ n → is_whole_word (value_at b k i) v ≡ true → RowFound v b k i n i
+    -- it has no value that is long enough and found
+    row_no : (r : Maybe ℕ) → RowFound v b k (i + 1) n r → has_value v b k (least_over k r) i ≡ false → RowFound v b k i n r
+    row_no None g e = row_passed (has_long v b k 0 i (omega arith) ∙ e) None g
+    row_no (Some r) g e = split (get_or k (i * 8 + 2) 0) (get_or k (r * 8 + 2) 0 + 1)
+        (λ q. row_shorter g (omega arith))
+        (λ q. row_passed (has_long v b k (get_or k (r * 8 + 2) 0 + 1) i q ∙ e) (Some r) g)
+
+    -- it has one
+    row_yes : (r : Maybe ℕ) → RowFound v b k (i + 1) n r → has_value v b k (least_over k r) i ≡ true → RowFound v b k i n (Some i)
     unfolding longer_of
-    row_last e f = record { high = omega arith; found = λ m t. next t ∙ rw (f, g.missed e t); missed = λ m. absurd (omega arith) }
+    row_yes None g e = record { out = (h, λ t. next t ∙ rw ((has_found v b k 0 i e).1, g.out t)) }
+    row_yes (Some r) g e =
+        let f = has_found v b k (get_or k (r * 8 + 2) 0 + 1) i e in
+        record { out = (h, λ t. next t ∙ rw (f.1, longer_is g t, lt-ltb (get_or k (r * 8 + 2) 0) (get_or k (i * 8 + 2) 0) (omega (arith, f.0)))) }
 
-    module _ (l : length b ≡ 65536) (s : Slots b k n) (q : r < n) where
-      -- of row i and the row r the longer one
-      longer_is : (t : Text) → longer_of (known_at t b k i) (later t)
-          ≡ cond (ltb (get_or k (r * 8 + 2) 0) (get_or k (i * 8 + 2) 0)) (some (known_at t b k i)) (some (known_at t b k r))
-      unfolding longer_of known_at
-      longer_is t = rw (g.found q t, value_length l (s.slot i h), value_length l (s.slot r q))
+-- the rows from row j on were looked at, and row j - 1 is the next
+module _ {v b : Text} {k : List ℕ} {n j least : ℕ} {r : Maybe ℕ} (l : length b ≡ 65536) (s : Slots b k n) (q : 0 < j) (h : j ≤ n) (g : RowFound v b k j n r × (least ≡ least_over k r)) where
+  before : RowFound v b k (j - 1 + 1) n r
+  before = let e : j - 1 + 1 ≡ j = omega arith in rw e g.0
 
-      row_shorter : get_or k (i * 8 + 2) 0 ≤ get_or k (r * 8 + 2) 0 → RowFound v b k i n r
-      row_shorter e = record {
-        high = g.high;
-        found = λ m t. next t ∙ rw (longer_is t, le-ltb (get_or k (r * 8 + 2) 0) (get_or k (i * 8 + 2) 0) e, g.found m t) (cond_both (is_whole_word (value_at b k i) v) (some (known_at t b k r)));
-        missed = λ m. absurd (omega arith);
-      }
+  pub picked_before : has_value v b k least (j - 1) ≡ false → RowFound v b k (j - 1) n r
+  picked_before e = row_no v b k n (j - 1) (omega arith) l s r before (rw (← g.1) e)
 
-      row_longer : get_or k (r * 8 + 2) 0 < get_or k (i * 8 + 2) 0 → is_whole_word (value_at b k i) v ≡ true → RowFound v b k i n i
-      row_longer e f = record {
-        high = omega arith;
-        found = λ m t. next t ∙ rw (f, longer_is t, lt-ltb (get_or k (r * 8 + 2) 0) (get_or k (i * 8 + 2) 0) e);
-        missed = λ m. absurd (omega arith);
-      }
-
-    module _ (l : length b ≡ 65536) (s : Slots b k n) {least : ℕ} (o : LeastOver k n r least) where
-      row_no : has_value v b k least i ≡ false → RowFound v b k i n r
-      row_no e = by_length (leb least (get_or k (i * 8 + 2) 0)) refl
-        where
-          by_length : (q : Bool) → leb least (get_or k (i * 8 + 2) 0) ≡ q → RowFound v b k i n r
-          by_length true q = row_passed (has_long v b k least i (leb-true least (get_or k (i * 8 + 2) 0) q) ∙ e)
-          by_length false q =
-              let z : r < n = dite (ℕ_discrete r n) (λ d. absurd (omega (arith, leb-false least (get_or k (i * 8 + 2) 0) q, o.none d))) (λ d. omega (arith, g.high)) in
-              row_shorter l s z (omega (arith, leb-false least (get_or k (i * 8 + 2) 0) q, o.row z))
-
-      row_yes : has_value v b k least i ≡ true → RowFound v b k i n i
-      row_yes e =
-          let f = has_found v b k least i e in
-          dite (ℕ_discrete r n) (λ d. row_last d f.1) λ d.
-          let z : r < n = omega (arith, g.high) in
-          row_longer l s z (omega (arith, f.0, o.row z)) f.1
-
-  -- of the rows before row i, as far as row j, none is picked
-  module _ {best least : ℕ} (l : length b ≡ 65536) (s : Slots b k n) (o : LeastOver k n best least) where
-    rows_no : (d i j : ℕ) → j + d ≡ i → i ≤ n → ((x : ℕ) → j ≤ x → x < i → has_value v b k least x ≡ false) → RowFound v b k i n best → RowFound v b k j n best
-    rows_no zero i j e h f g = let q : i ≡ j = omega arith in rw (sym q) g
-    rows_no (suc d) i j e h f g = row_no j (rows_no d i (j + 1) (omega arith) h (λ x m q. f x (omega arith) q) g) (omega arith) l s o (f j (omega arith) (omega arith))
-
-    pub picked_all : {i r : ℕ} → i ≤ n → r ≡ i → LastFound v b k least i r → RowFound v b k i n best → RowFound v b k 0 n best
-    picked_all {i} h e f g = rows_no i i 0 (omega arith) h (λ x m q. f.missed e x q) g
-
-    pub picked_more : {i r : ℕ} → i ≤ n → (r ≡ i → ⊥) → LastFound v b k least i r → RowFound v b k i n best → RowFound v b k r n r
-    picked_more {i} {r} h e f g =
-        let q : r < i = omega (arith, f.high) in
-        row_yes r (rows_no (i - (r + 1)) i (r + 1) (omega arith) h (λ x m z. f.behind q x (omega arith) z) g) (omega arith) l s o (f.found q)
-
--- the lengths that are looked for
-pub least_none : {k : List ℕ} {n : ℕ} → LeastOver k n n 0
-least_none = record { none = λ e. refl; row = λ h. absurd (omega arith) }
-
-pub least_row : {k : List ℕ} {n r : ℕ} → r < n → LeastOver k n r (get_or k (r * 8 + 2) 0 + 1)
-least_row h = record { none = λ e. absurd (omega arith); row = λ q. refl }
-
-pub slots_to : {b : Text} {k : List ℕ} {n i : ℕ} → Slots b k n → i ≤ n → Slots b k i
-slots_to s h = record { few = omega (arith, s.few); slot = λ x m. s.slot x (omega arith) }
+  pub picked_here : has_value v b k least (j - 1) ≡ true → RowFound v b k (j - 1) n (Some (j - 1))
+  picked_here e = row_yes v b k n (j - 1) (omega arith) l s r before (rw (← g.1) e)
 
 -- ---- a row that is written
 

@@ -1,14 +1,9 @@
 -- Laws of learning a value, and of the sweep's choice. Assumes nothing.
-use mathlib.Core.Path.{◌≡◌, refl, sym, ap, ap₂, ◌∙◌}
-use mathlib.Core.Bool.{Bool, true, false, ◌||◌}
-use mathlib.Core.List.{List, [], ◌∷◌, ◌++◌}
-use mathlib.Core.Option.{Option, none}
-use Prim.Native.Nat.{ℕ, zero, suc, ◌+◌, ◌-◌, ◌*◌, ◌≤◌, ◌<◌}
-use native.Mathlib.Nat.{add-zero, sub-zero}
-use native.Mathlib.Omega.{arith}
-use borrow.Author.Tests.{lt-ltb, le-ltb, leb-false, ltb-true, ltb-false}
-use lib.ListN.{length, get_or}
-use lib.Dec.{leb, ltb}
+use Rattle.std.proofs.Common.{◌≡◌, refl, sym, ap, ap₂, ◌∙◌, Bool, true, false, ◌||◌, List, [], ◌∷◌, ◌++◌, ℕ, zero, suc, ◌+◌, ◌-◌, ◌*◌, ◌≤◌, ◌<◌, leb, ltb, length, get_or, Some, None, Result, Ok, Err}
+use Rattle.std.proofs.Common.{arith, add-zero, lt-ltb, le-ltb, leb-false, ltb-true, ltb-false}
+use Rattle.std.proofs.Common.{Option as Maybe}
+use Rattle.std.proofs.Math.Option.{Option, none}
+use native.Mathlib.Nat.{sub-zero}
 use Rattle.text.specs.Text.{Text, lower, part, between, Wrote, SameTo}
 use Rattle.text.proofs.Kept.{same_all, same_then, part_same, wrote_same, wrote_between}
 use Rattle.text.proofs.Laws.{split, or_true, by_cond}
@@ -21,11 +16,11 @@ use Rattle.message_model.specs.Value.{is_empty_or_null, value}
 use Rattle.er7_value.proofs.Decoding.{long_full, value_length}
 use Rattle.er7_value.proofs.Hits.{word_short}
 use Rattle.run_model.specs.Redact.{Known, knows, known_bytes, Event, learning, after_event, after_events, longest_found, action_in, for_sweep}
-use Rattle.redact_5_act.specs.declared.known.Learnt.{Learnt}
-use Rattle.redact_5_act.specs.declared.known.Learnt.TheVariants.{Kept, Full}
-use Rattle.redact_5_act.specs.Known.{value_at, hash_of, action_at, known_at, known_from, GoodKnown, ActionsHeld, progress_of, learn_value, learn_leaf, Learns, swept_in, Swept}
+use Rattle.refusal.specs.declared.Refusal.{Refusal}
+use Rattle.refusal.specs.declared.Refusal.TheVariants.{TooMuchLearnt}
+use Rattle.redact_5_act.specs.Known.{value_at, hash_of, action_at, known_at, known_from, GoodKnown, ActionsHeld, progress_of, learn_value, learn_leaf, Learns, swept_in, FoundOr, Swept}
 use Rattle.redact_5_act.specs.Inner.{RowFound, RowPut}
-use Rattle.redact_5_act.proofs.Knowing.{apart, known_length}
+use Rattle.redact_5_act.proofs.Knowing.{known_length}
 use Rattle.refusal.specs.Limits.{LEARNT_BYTES_MAX, LEARNT_MAX}
 
 -- ---- tests
@@ -145,13 +140,13 @@ module _ {b : Text} {k k' : List ℕ} {n used e v : ℕ} {a : HeldAction} (g : G
 -- ---- advanced
 
 module _ (a : HeldAction) {b : Text} {k : List ℕ} {n used : ℕ} (e : ℕ) (g : GoodKnown b k n used) where
-  pub learns_known : ((t : Text) → knows (between b used e) (known_from t b k 0 n) ≡ true) → Learns (learn_value (between b used e) a) a b k n used b k (Kept n used)
+  pub learns_known : ((t : Text) → knows (between b used e) (known_from t b k 0 n) ≡ true) → Learns (learn_value (between b used e) a) a b k n used b k (Ok (n, used))
   unfolding learn_value after_events after_event progress_of
   learns_known f = record {
     beside = same_all;
     progress = λ t ρs z. rw (f t);
-    good = λ m u e. let x : n ≡ m = cc in let y : used ≡ u = cc in rw (← x, ← y) g;
-    held = λ t h fs m u e. let x : n ≡ m = cc in rw (← x) fs;
+    good = g;
+    held = λ t h fs. fs;
   }
 
   module _ (r : used + 3 ≤ e) (l : e ≤ length b) where
@@ -160,39 +155,39 @@ module _ (a : HeldAction) {b : Text} {k : List ℕ} {n used : ℕ} (e : ℕ) (g 
     test_is t = let q : used + (e - used) ≡ e = omega arith in rw (known_length t b k 0 n, bytes_any t [] b k 0 n, ← g.sum, between_length b used e l, q)
 
     module _ (f : (t : Text) → knows (between b used e) (known_from t b k 0 n) ≡ false) where
-      pub learns_full : (leb LEARNT_MAX n || ltb LEARNT_BYTES_MAX e) ≡ true → Learns (learn_value (between b used e) a) a b k n used b k Full
+      pub learns_full : (leb LEARNT_MAX n || ltb LEARNT_BYTES_MAX e) ≡ true → Learns (learn_value (between b used e) a) a b k n used b k (Err TooMuchLearnt)
       unfolding learn_value after_events after_event progress_of
       learns_full q = record {
         beside = same_all;
         progress = λ t ρs z. rw (f t, test_is t, q);
-        good = λ m u e. apart cc;
-        held = λ t h fs m u e. apart cc;
+        good = tt;
+        held = λ t h fs. tt;
       }
 
       pub learns_more : {k' : List ℕ} {v : ℕ} → (leb LEARNT_MAX n || ltb LEARNT_BYTES_MAX e) ≡ false → v ≡ hash_of (between b used e) → RowPut k n v used (e - used) a k'
-          → Learns (learn_value (between b used e) a) a b k n used b k' (Kept (n + 1) e)
+          → Learns (learn_value (between b used e) a) a b k n used b k' (Ok (n + 1, e))
       unfolding learn_value after_events after_event progress_of
       learns_more q y p =
-          let x = more_good g r l y p (not_many n e q) (not_much n e q) in record {
+          record {
             beside = same_all;
             progress = λ t ρs z. rw (f t, test_is t, q, list_more g r l y p t);
-            good = λ m u o. let i : n + 1 ≡ m = cc in let j : e ≡ u = cc in rw (← i, ← j) x;
-            held = λ t h fs m u o. let i : n + 1 ≡ m = cc in rw (← i) (more_held g r l y p t h fs);
+            good = more_good g r l y p (not_many n e q) (not_much n e q);
+            held = λ t h fs. more_held g r l y p t h fs;
           }
 
 -- nothing to learn
 pub learns_nothing : {es : Text → List Event} {a : HeldAction} {b b' : Text} {k : List ℕ} {n used : ℕ} → GoodKnown b k n used → SameTo used b b' → ((t : Text) → es t ≡ [])
-    → Learns es a b k n used b' k (Kept n used)
+    → Learns es a b k n used b' k (Ok (n, used))
 unfolding after_events progress_of
 learns_nothing {es} {a} {b} {b'} {k} {n} {used} g w f = record {
   beside = w;
   progress = λ t ρs z. rw (f t, known_same g w t);
-  good = λ m u e. let x : n ≡ m = cc in let y : used ≡ u = cc in rw (← x, ← y) (good_same g w);
-  held = λ t h fs m u e. let x : n ≡ m = cc in rw (← x) fs;
+  good = good_same g w;
+  held = λ t h fs. fs;
 }
 
 -- the same events by another definition, learnt where the bytes behind the values have changed
-pub learns_as : {es fs : Text → List Event} {a : HeldAction} {b b' b'' : Text} {k : List ℕ} {n used : ℕ} {k' : List ℕ} {r : Learnt}
+pub learns_as : {es fs : Text → List Event} {a : HeldAction} {b b' b'' : Text} {k : List ℕ} {n used : ℕ} {k' : List ℕ} {r : Result (ℕ × ℕ) Refusal}
     → GoodKnown b k n used → SameTo used b b' → ((t : Text) → es t ≡ fs t) → Learns fs a b' k n used b'' k' r → Learns es a b k n used b'' k' r
 learns_as g w f h = record { beside = same_then w h.beside; progress = λ t ρs z. rw (f t, known_same g w t) (h.progress t ρs z); good = h.good; held = h.held }
 
@@ -245,30 +240,26 @@ unfolding longest_found known_from known_at
 none_found v b k i zero h x = refl
 none_found v b k i (suc n) h x = rw (word_short (value_at b k i) v (h i (omega arith))) (none_found v b k (i + 1) n (λ j l. h j (omega arith)) x)
 
-pub swept_small : (s : Separators) (t : Text) {b : Text} {k : List ℕ} {n used : ℕ} → GoodKnown b k n used → length t < 3 → Swept s t b b k n used n
+pub swept_small : (s : Separators) (t : Text) {b : Text} {k : List ℕ} {n used : ℕ} → GoodKnown b k n used → length t < 3 → Swept s t b b k n used None
 unfolding swept_in for_sweep action_in
 swept_small s t {b} {k} {n} g h = record {
   beside = same_all;
   found = record {
-    high = omega arith;
-    found = λ l. absurd (omega arith);
-    missed = λ l x. by_cond (λ (o : Option Action). o ≡ none) (is_empty_or_null t) none (action_in (longest_found (known_from x b k 0 n) (lower (value s t))))
+    out = λ x. by_cond (λ (o : Option Action). o ≡ none) (is_empty_or_null t) none (action_in (longest_found (known_from x b k 0 n) (lower (value s t))))
         (λ e. refl)
         (λ e. ap action_in (none_found (lower (value s t)) b k 0 n (λ j m. omega (arith, small_value s t h, (g.slots j (omega arith)).1)) x));
   };
 }
 
-pub swept_found : (s : Separators) (t : Text) {b b' : Text} {k : List ℕ} {n used m r : ℕ} → GoodKnown b k n used → 3 ≤ length t → Wrote b used (lower (value s t)) b' m
-    → RowFound (between b' used m) b' k 0 n r → Swept s t b b' k n used r
-unfolding action_in known_at
-swept_found s t {b} {b'} {k} {n} {used} {m} {r} g e w h = record {
-  beside = wrote_same w;
-  found = record {
-    high = h.high;
-    found = λ l x. by_leaf x ∙ ap action_in (h.found l x);
-    missed = λ l x. by_leaf x ∙ ap action_in (h.missed l x);
-  };
-}
-  where
-    by_leaf : (x : Text) → swept_in s t b k n x ≡ action_in (longest_found (known_from x b' k 0 (n - 0)) (between b' used m))
-    by_leaf x = unfold swept_in in unfold for_sweep in rw (long_full t e, wrote_between w, known_same g (wrote_same w) x, sub-zero n)
+-- a longer one is looked for in b', where its value was written
+module _ (s : Separators) (t : Text) {b b' : Text} {k : List ℕ} {n used m : ℕ} (g : GoodKnown b k n used) (e : 3 ≤ length t) (w : Wrote b used (lower (value s t)) b' m) where
+  by_leaf : (x : Text) → swept_in s t b k n x ≡ action_in (longest_found (known_from x b' k 0 (n - 0)) (between b' used m))
+  by_leaf x = unfold swept_in in unfold for_sweep in rw (long_full t e, wrote_between w, known_same g (wrote_same w) x, sub-zero n)
+
+  found_by : (r : Maybe ℕ) → RowFound (between b' used m) b' k 0 n r → FoundOr (swept_in s t b k n) k n r
+  unfolding action_in known_at
+  found_by None h = λ x. by_leaf x ∙ ap action_in (h.out x)
+  found_by (Some r) h = (h.out.0, λ x. by_leaf x ∙ ap action_in (h.out.1 x))
+
+  pub swept_found : {r : Maybe ℕ} → RowFound (between b' used m) b' k 0 n r → Swept s t b b' k n used r
+  swept_found {r} h = record { beside = wrote_same w; found = record { out = found_by r h } }

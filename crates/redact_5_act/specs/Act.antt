@@ -1,9 +1,9 @@
 -- What becomes of one leaf's text, which stands in a store of texts. Assumes nothing: these are definitions.
-use Rattle.std.specs.Prelude.{◌≡◌, ℕ, ◌+◌, ◌-◌, ◌≤◌, ◌<◌, length}
+use Rattle.std.specs.Prelude.{◌≡◌, ℕ, ◌+◌, ◌-◌, ◌≤◌, ◌<◌, length, Option, Some, None, Result, Ok, Err}
 use Rattle.text.specs.Text.{Text, SameTo, StandsAt}
 use Rattle.run_model.specs.Redact.{Effect, stays, becomes}
-use Rattle.redact_5_act.specs.declared.act.Effect.{Effect as HeldEffect}
-use Rattle.redact_5_act.specs.declared.act.Effect.TheVariants.{Stays, Becomes, TooLong}
+use Rattle.refusal.specs.declared.Refusal.{Refusal}
+use Rattle.refusal.specs.declared.Refusal.TheVariants.{MessageTooLong}
 use Rattle.redact_5_act.specs.declared.state.Counters.{Counters}
 use Rattle.refusal.specs.Limits.{LEARNT_BYTES_MAX, TEXT_MAX}
 
@@ -23,16 +23,16 @@ pub record Overran (f : Effect) (went : ℕ) (c : Counters) : Type 0 where
 
 -- the answer for the effect f, where `went` bytes of the message go: d is the store before it, d' the store after it. An action on one leaf
 -- lets none vanish
-abbrev pub ActedOr : Effect → ℕ → Counters → Text → Text → HeldEffect → Type 0
-ActedOr f went c d d' Stays = (f ≡ stays) × SameTo c.used d d'
-ActedOr f went c d d' (Becomes n) = Became f went c d d' n
-ActedOr f went c d d' TooLong = Overran f went c
+abbrev pub ActedOr : Effect → ℕ → Counters → Text → Text → Result (Option ℕ) Refusal → Type 0
+ActedOr f went c d d' (Ok None) = (f ≡ stays) × SameTo c.used d d'
+ActedOr f went c d d' (Ok (Some n)) = Became f went c d d' n
+ActedOr f went c d d' (Err e) = (e ≡ MessageTooLong) × Overran f went c
 
-pub record Acted (f : Effect) (went : ℕ) (c : Counters) (d d' : Text) (r : HeldEffect) : Type 0 where
+pub record Acted (f : Effect) (went : ℕ) (c : Counters) (d d' : Text) (r : Result (Option ℕ) Refusal) : Type 0 where
   pub out : ActedOr f went c d d' r
 
 -- .. with work behind the learnt values, whose bytes are kept
-pub record ActedBeside (f : Effect) (went : ℕ) (c : Counters) (d d' bytes bytes' : Text) (r : HeldEffect) : Type 0 where
+pub record ActedBeside (f : Effect) (went : ℕ) (c : Counters) (d d' bytes bytes' : Text) (r : Result (Option ℕ) Refusal) : Type 0 where
   pub out : ActedOr f went c d d' r
   pub beside : SameTo c.known_used bytes bytes'
 

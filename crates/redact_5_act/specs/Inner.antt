@@ -1,5 +1,6 @@
 -- What the contracts of private functions cite; no public contract rests on it. Assumes nothing: these are definitions.
-use Rattle.std.specs.Prelude.{◌≡◌, Bool, true, false, cond, ◌&&◌, List, ℕ, ◌+◌, ◌-◌, ◌*◌, ◌≤◌, ◌<◌, leb, get_or}
+use Rattle.std.specs.Prelude.{◌≡◌, Bool, false, cond, ◌&&◌, List, ℕ, ◌+◌, ◌-◌, ◌*◌, ◌≤◌, ◌<◌, leb, get_or, Some, None}
+use Rattle.std.specs.Prelude.{Option as Maybe}
 use Rattle.std.proofs.Math.Option.{Option, none, some}
 use Rattle.text.specs.Text.{Text, between}
 use Rattle.er7.specs.declared.separators.Separators.{Separators}
@@ -40,18 +41,13 @@ first_marked starts v = get_or starts (get_or v 0 0) false
 unfoldable pub has_value : Text → Text → List ℕ → ℕ → ℕ → Bool
 has_value v bytes known least k = leb least (get_or known (k * 8 + 2) 0) && is_whole_word (value_at bytes known k) v
 
--- r is the last of the first k rows of which that holds; or k
-pub record LastFound (v bytes : Text) (known : List ℕ) (least k r : ℕ) : Type 0 where
-  pub high : r ≤ k
-  pub found : r < k → has_value v bytes known least r ≡ true
-  pub behind : r < k → (j : ℕ) → r < j → j < k → has_value v bytes known least j ≡ false
-  pub missed : r ≡ k → (j : ℕ) → j < k → has_value v bytes known least j ≡ false
+-- r is the row of the value that is picked for v of the rows from row i on, if one is
+abbrev pub PickedOr : Text → Text → List ℕ → ℕ → ℕ → Maybe ℕ → Type 0
+PickedOr v bytes known i n None = (text : Text) → longest_found (known_from text bytes known i (n - i)) v ≡ none
+PickedOr v bytes known i n (Some r) = (r < n) × ((text : Text) → longest_found (known_from text bytes known i (n - i)) v ≡ some (known_at text bytes known r))
 
--- r is the row of the value that is picked for v of the rows from row i on, or n if none is
-pub record RowFound (v bytes : Text) (known : List ℕ) (i n r : ℕ) : Type 0 where
-  pub high : r ≤ n
-  pub found : r < n → (text : Text) → longest_found (known_from text bytes known i (n - i)) v ≡ some (known_at text bytes known r)
-  pub missed : r ≡ n → (text : Text) → longest_found (known_from text bytes known i (n - i)) v ≡ none
+pub record RowFound (v bytes : Text) (known : List ℕ) (i n : ℕ) (r : Maybe ℕ) : Type 0 where
+  pub out : PickedOr v bytes known i n r
 
 -- row n of a value with the hash h, of len bytes from index start on, with the action a, was written, which left known'; the rows before it are kept
 pub record RowPut (known : List ℕ) (n h start len : ℕ) (a : HeldAction) (known' : List ℕ) : Type 0 where

@@ -1,6 +1,7 @@
 -- The learnt values: their bytes in one buffer, and a table with a row of eight cells for each value: its hash, where its bytes start,
 -- how many they are, its action's kind and the two operands of it, none, none. Assumes nothing: these are definitions.
-use Rattle.std.specs.Prelude.{◌≡◌, true, cond, List, [], ◌∷◌, ℕ, zero, suc, ◌+◌, ◌*◌, ◌%◌, ◌^◌, ◌≤◌, ◌<◌, ℤ, pos, negsuc, length, get_or, eqb}
+use Rattle.std.specs.Prelude.{◌≡◌, true, cond, List, [], ◌∷◌, ℕ, zero, suc, ◌+◌, ◌*◌, ◌%◌, ◌^◌, ◌≤◌, ◌<◌, ℤ, pos, negsuc, length, get_or, eqb, Some, None, Result, Ok, Err, IfOk}
+use Rattle.std.specs.Prelude.{Option as Maybe}
 use Rattle.std.proofs.Math.Option.{Option, none, some}
 use Rattle.text.specs.Text.{Text, part, SameTo}
 use Rattle.er7.specs.declared.separators.Separators.{Separators}
@@ -8,11 +9,9 @@ use Rattle.pseudonym.specs.Pseudonym.{fold, OFFSET}
 use Rattle.er7_redact.specs.declared.action.Action.{Action as HeldAction}
 use Rattle.er7_redact.specs.declared.action.Action.TheVariants as Held
 use Rattle.er7_redact.specs.Action.{Action, as_action, ActionHeld}
-use Rattle.refusal.specs.declared.Refusal.TheVariants.{TooMuchLearnt}
+use Rattle.refusal.specs.declared.Refusal.{Refusal}
 use Rattle.refusal.specs.Limits.{LEARNT_BYTES_MAX, LEARNT_MAX}
 use Rattle.run_model.specs.Redact.{Known, known_bytes, Row, Event, learn, learning, Progress, running, stopped, after_events, for_sweep}
-use Rattle.redact_5_act.specs.declared.known.Learnt.{Learnt}
-use Rattle.redact_5_act.specs.declared.known.Learnt.TheVariants.{Kept, Full}
 
 -- ---- the table
 
@@ -78,9 +77,9 @@ pub record ActionsHeld (text : Text) (known : List ℕ) (n : ℕ) : Type 0 where
 -- ---- learning
 
 -- the progress after it: the values that are known then, or a stop
-unfoldable pub progress_of : Text → Text → List ℕ → List Row → ℕ → Learnt → Progress
-progress_of text bytes known ρs z (Kept n used) = running (known_from text bytes known 0 n) ρs z
-progress_of text bytes known ρs z Full = stopped TooMuchLearnt
+unfoldable pub progress_of : Text → Text → List ℕ → List Row → ℕ → Result (ℕ × ℕ) Refusal → Progress
+progress_of text bytes known ρs z (Ok (n, used)) = running (known_from text bytes known 0 n) ρs z
+progress_of text bytes known ρs z (Err e) = stopped e
 
 -- the events of a value, and of a leaf with the text t, to be learnt with the action a
 unfoldable pub learn_value : Text → HeldAction → Text → List Event
@@ -90,11 +89,11 @@ unfoldable pub learn_leaf : Separators → Text → HeldAction → Text → List
 learn_leaf s t a text = learning s (as_action text a) (t ∷ [])
 
 -- the events es, which learn values for the action a, are recorded, where the sweep is on; of the bytes the first `used` are kept
-pub record Learns (es : Text → List Event) (a : HeldAction) (bytes : Text) (known : List ℕ) (n used : ℕ) (bytes' : Text) (known' : List ℕ) (r : Learnt) : Type 0 where
+pub record Learns (es : Text → List Event) (a : HeldAction) (bytes : Text) (known : List ℕ) (n used : ℕ) (bytes' : Text) (known' : List ℕ) (r : Result (ℕ × ℕ) Refusal) : Type 0 where
   pub beside : SameTo used bytes bytes'
   pub progress : (text : Text) (ρs : List Row) (z : ℕ) → after_events true (es text) (running (known_from text bytes known 0 n) ρs z) ≡ progress_of text bytes' known' ρs z r
-  pub good : (m end : ℕ) → r ≡ Kept m end → GoodKnown bytes' known' m end
-  pub held : (text : Text) → ActionHeld text a → ActionsHeld text known n → (m end : ℕ) → r ≡ Kept m end → ActionsHeld text known' m
+  pub good : IfOk r (λ now. GoodKnown bytes' known' now.0 now.1)
+  pub held : (text : Text) → ActionHeld text a → ActionsHeld text known n → IfOk r (λ now. ActionsHeld text known' now.0)
 
 -- ---- finding
 
@@ -102,13 +101,15 @@ pub record Learns (es : Text → List Event) (a : HeldAction) (bytes : Text) (kn
 unfoldable pub swept_in : Separators → Text → Text → List ℕ → ℕ → Text → Option Action
 swept_in s t bytes known n text = for_sweep s (known_from text bytes known 0 n) t
 
--- r is the row whose action is found, or n if none is
-pub record FoundAt (o : Text → Option Action) (known : List ℕ) (n r : ℕ) : Type 0 where
-  pub high : r ≤ n
-  pub found : r < n → (text : Text) → o text ≡ some (as_action text (action_at known r))
-  pub missed : r ≡ n → (text : Text) → o text ≡ none
+-- r is the row whose action is found, if one is
+abbrev pub FoundOr : (Text → Option Action) → List ℕ → ℕ → Maybe ℕ → Type 0
+FoundOr o known n None = (text : Text) → o text ≡ none
+FoundOr o known n (Some r) = (r < n) × ((text : Text) → o text ≡ some (as_action text (action_at known r)))
+
+pub record FoundAt (o : Text → Option Action) (known : List ℕ) (n : ℕ) (r : Maybe ℕ) : Type 0 where
+  pub out : FoundOr o known n r
 
 -- .. for a leaf with the text t; of the bytes those of the values are kept
-pub record Swept (s : Separators) (t bytes bytes' : Text) (known : List ℕ) (n used r : ℕ) : Type 0 where
+pub record Swept (s : Separators) (t bytes bytes' : Text) (known : List ℕ) (n used : ℕ) (r : Maybe ℕ) : Type 0 where
   pub beside : SameTo used bytes bytes'
   pub found : FoundAt (swept_in s t bytes known n) known n r

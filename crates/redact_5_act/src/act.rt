@@ -14,29 +14,24 @@ ghost use Rattle.refusal.specs.Limits.{TEXT_MAX};
 use super::state::{Counters, Setting, is_over};
 use er7::separators::Separators;
 use er7_redact::action;
-use er7_redact::action::{Action, Applied};
+use er7_redact::action::Action;
 use er7_value::escape;
+use refusal::Refusal;
 use text::bytes::{copy_at, same_bytes};
 
-// What becomes of a leaf: its text stays, or is of that length, or would leave the message too long.
-#[derive(Clone, Copy)]
-pub enum Effect {
-    Stays,
-    Becomes(usize),
-    TooLong,
-}
+// An action on a leaf returns the length of the leaf's new text, or none where its text stays; or a refusal, where the new text would leave the
+// message too long.
 
 // Writes the null behind the texts in store, in the place of went bytes of the message.
-pub fn put_null(store: &mut [u8; 98304], went: usize, c: Counters) -> Effect
+pub fn put_null(store: &mut [u8; 98304], went: usize, c: Counters) -> Result<Option<usize>, Refusal>
     requires { c.size - went + 2 ≤ TEXT_MAX → c.used + 2 ≤ 98304 }
     ensures { Acted (becomes NULL) went c store.old store.new result }
 {
     if is_over(c.size, went, 2) {
-        return Effect::TooLong;
+        return Err(Refusal::MessageTooLong);
     }
-    let used = c.used;
-    copy_at(store, used, b"\"\"");
-    Effect::Becomes(2)
+    copy_at(store, c.used, b"\"\"");
+    Ok(Some(2))
 }
 
 // The value of n bytes that stands behind the texts in store, its delimiters escaped, in the place of a leaf of len bytes.
@@ -48,26 +43,23 @@ fn put_escaped(
     store: &mut [u8; 98304],
     bytes: &mut [u8; 65536],
     c: Counters,
-) -> Effect
+) -> Result<Option<usize>, Refusal>
     requires { ActRoom len c × (c.used + n ≤ 98304) × (n ≤ TEXT_MAX) }
     ensures { ActedBeside (becomes (encode s (part store.old c.used n))) len c store.old store.new bytes.old bytes.new result }
 {
     let used = c.used;
     let end = used + n;
-    let all = &store[..];
-    let m = escape::encoded_len(&all[used..end], s);
+    let m = escape::encoded_len(&store[used..end], s);
     if is_over(c.size, len, m) {
-        return Effect::TooLong;
+        return Err(Refusal::MessageTooLong);
     }
     if m == n {
-        return Effect::Becomes(n);
+        return Ok(Some(n));
     }
     let from = c.known_used;
-    let raw = &store[..];
-    let to = copy_at(bytes, from, &raw[used..end]);
-    let value = &bytes[..];
-    escape::encode(&value[from..to], s, store, used);
-    Effect::Becomes(m)
+    let to = copy_at(bytes, from, &store[used..end]);
+    escape::encode(&bytes[from..to], s, store, used);
+    Ok(Some(m))
 }
 
 // What the action a, which writes n bytes, puts in the place of the value that stands in bytes from behind the learnt values to index to, unless it is the same.
@@ -80,17 +72,15 @@ fn put_value(
     store: &mut [u8; 98304],
     bytes: &mut [u8; 65536],
     c: Counters,
-) -> Effect
+) -> Result<Option<usize>, Refusal>
     requires { ActionHeld text.now a × ActRoom len c × Decoded bytes.old to len c × Fits (Actions.apply on.key (as_action text.now a) (decoded_at bytes.old to c)) len c }
     ensures { ActedBeside (replaced on.separators (some (written (Actions.apply on.key (as_action text.now a) (decoded_at bytes.old to c)))) (decoded_at bytes.old to c)) len c store.old store.new bytes.old bytes.new result }
 {
     let from = c.known_used;
     let used = c.used;
-    let value = &bytes[..];
-    let end = action::apply(a, text, on.key, &value[from..to], store, used);
-    let all = &store[..];
-    if same_bytes(&all[used..end], &value[from..to]) {
-        return Effect::Stays;
+    let end = action::apply(a, text, on.key, &bytes[from..to], store, used);
+    if same_bytes(&store[used..end], &bytes[from..to]) {
+        return Ok(None);
     }
     put_escaped(on.separators, end - used, len, store, bytes, c)
 }
@@ -105,17 +95,15 @@ fn put_applied(
     store: &mut [u8; 98304],
     bytes: &mut [u8; 65536],
     c: Counters,
-) -> Effect
+) -> Result<Option<usize>, Refusal>
     requires { ActionHeld text.now a × ActRoom len c × Decoded bytes.old to len c }
     ensures { ActedBeside (replaced on.separators (Actions.apply on.key (as_action text.now a) (decoded_at bytes.old to c)) (decoded_at bytes.old to c)) len c store.old store.new bytes.old bytes.new result }
 {
-    let from = c.known_used;
-    let value = &bytes[..];
-    match action::applied_len(a, &value[from..to]) {
-        Applied::Nothing => Effect::Stays,
-        Applied::Written(n) => {
+    match action::applied_len(a, &bytes[c.known_used..to]) {
+        None => Ok(None),
+        Some(n) => {
             if is_over(c.size, len, n) {
-                return Effect::TooLong;
+                return Err(Refusal::MessageTooLong);
             }
             put_value(on, a, text, to, len, store, bytes, c)
         }
@@ -123,14 +111,17 @@ fn put_applied(
 }
 
 // The action null on the leaf of len bytes in store from index start on.
-fn act_null(start: usize, len: usize, store: &mut [u8; 98304], c: Counters) -> Effect
+fn act_null(
+    start: usize,
+    len: usize,
+    store: &mut [u8; 98304],
+    c: Counters,
+) -> Result<Option<usize>, Refusal>
     requires { LeafHeld start len c }
     ensures { Acted (nulled (part store.old start len)) len c store.old store.new result }
 {
-    let end = start + len;
-    let all = &store[..];
-    if escape::is_null(&all[start..end]) {
-        return Effect::Stays;
+    if escape::is_null(&store[start..start + len]) {
+        return Ok(None);
     }
     put_null(store, len, c)
 }
@@ -145,13 +136,16 @@ fn act_value(
     store: &mut [u8; 98304],
     bytes: &mut [u8; 65536],
     c: Counters,
-) -> Effect
+) -> Result<Option<usize>, Refusal>
     requires { ActionHeld text.now a × LeafHeld start len c }
     ensures { ActedBeside (on_value on.key on.separators (as_action text.now a) (part store.old start len)) len c store.old store.new bytes.old bytes.new result }
 {
-    let end = start + len;
-    let all = &store[..];
-    let to = escape::value(&all[start..end], on.separators, bytes, c.known_used);
+    let to = escape::value(
+        &store[start..start + len],
+        on.separators,
+        bytes,
+        c.known_used,
+    );
     put_applied(on, a, text, to, len, store, bytes, c)
 }
 
@@ -166,17 +160,15 @@ pub fn act(
     store: &mut [u8; 98304],
     bytes: &mut [u8; 65536],
     c: Counters,
-) -> Effect
+) -> Result<Option<usize>, Refusal>
     requires { ActionHeld text.now a × LeafHeld start len c }
     ensures { ActedBeside (Spec.act on.key on.separators (as_action text.now a) (part store.old start len)) len c store.old store.new bytes.old bytes.new result }
 {
     if action::is_null_action(a) {
         return act_null(start, len, store, c);
     }
-    let end = start + len;
-    let all = &store[..];
-    if escape::is_empty_or_null(&all[start..end]) {
-        return Effect::Stays;
+    if escape::is_empty_or_null(&store[start..start + len]) {
+        return Ok(None);
     }
     act_value(on, a, text, start, len, store, bytes, c)
 }

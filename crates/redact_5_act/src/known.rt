@@ -6,7 +6,7 @@ ghost use Rattle.er7_value.specs.Starts.{Starts};
 ghost use Rattle.run_model.specs.Redact as Spec;
 ghost use Rattle.er7_redact.specs.declared.action.Action.TheVariants as Held;
 ghost use Rattle.redact_5_act.specs.Known.{days_in, action_of, action_at, value_at, hash_of, known_from, Slot, Slots, GoodKnown, learn_value, learn_leaf, Learns, Swept};
-ghost use Rattle.redact_5_act.specs.Inner.{first_marked, has_value, RowFound, LastFound, RowPut};
+ghost use Rattle.redact_5_act.specs.Inner.{first_marked, has_value, RowFound, RowPut};
 ghost use Rattle.refusal.specs.Limits.{LEARNT_MAX, TEXT_MAX};
 
 use er7::separators::Separators;
@@ -14,18 +14,12 @@ use er7_redact::action;
 use er7_redact::action::Action;
 use er7_value::word;
 use pseudonym::{OFFSET, fold};
+use refusal::Refusal;
 use refusal::limits::{LEARNT_BYTES_MAX, LEARNT_MAX};
 use text::bytes::same_bytes;
 
 // The cells of the table of learnt values: eight for each.
 pub const KNOWN_CELLS: usize = LEARNT_MAX * 8;
-
-// How many values are known, and how many bytes they take; or that there are too many.
-#[derive(Clone, Copy)]
-pub enum Learnt {
-    Kept(usize, usize),
-    Full,
-}
 
 // An action as three numbers: its kind and its operands, 0 where it has none.
 #[derive(Clone, Copy)]
@@ -135,8 +129,7 @@ fn hash_of(bytes: &[u8; 65536], i: usize, e: usize) -> usize
     requires { (i ≤ e) × (e ≤ 65536) }
     ensures { (result ≡ hash_of (between bytes.now i e)) × (e ≤ length bytes.now) }
 {
-    let all = &bytes[..];
-    fold(OFFSET, &all[i..e]) as usize
+    fold(OFFSET, &bytes[i..e]) as usize
 }
 
 // Whether the bytes from index i to index e, whose hash is h, are the value of row k.
@@ -157,8 +150,7 @@ fn is_value(
     }
     let start = known[row + 1];
     let end = start + known[row + 2];
-    let all = &bytes[..];
-    same_bytes(&all[i..e], &all[start..end])
+    same_bytes(&bytes[i..e], &bytes[start..end])
 }
 
 // Whether the value of row k begins with a byte that is marked.
@@ -172,9 +164,7 @@ fn may_have(
     ensures { result ≡ first_marked starts.now (value_at bytes.now known.now k) }
 {
     let start = known[k * 8 + 1];
-    let all = &bytes[..];
-    let b = all[start] as usize;
-    starts[b]
+    starts[bytes[start] as usize]
 }
 
 // Whether the value of row k is a whole word of the bytes from index i to index e.
@@ -185,8 +175,7 @@ fn has_word(bytes: &[u8; 65536], i: usize, e: usize, known: &[usize; KNOWN_CELLS
     let row = k * 8;
     let start = known[row + 1];
     let end = start + known[row + 2];
-    let all = &bytes[..];
-    word::is_whole_word(&all[start..end], &all[i..e])
+    word::is_whole_word(&bytes[start..end], &bytes[i..e])
 }
 
 // The action of row i.
@@ -210,12 +199,10 @@ fn knows(
     requires { Slots bytes.now known.now n × (i ≤ e) × (e ≤ 65536) × (h ≡ hash_of (between bytes.now i e)) }
     ensures { (text : Text) → result ≡ Spec.knows (between bytes.now i e) (known_from text bytes.now known.now 0 n) }
 {
-    let mut k = 0;
-    while k < n {
+    for k in 0..n {
         if is_value(bytes, i, e, h, known, k) {
             return true;
         }
-        k += 1;
     }
     false
 }
@@ -243,53 +230,32 @@ fn has_value(
     has_word(bytes, i, e, known, k)
 }
 
-// The last of the first k rows whose value has `least` bytes at least and is such a word; or k.
-fn last_found(
+// The row of the longest of n learnt values that is a whole word of the bytes from index i to index e, which are in lower case, of equally
+// long ones the last; or none. Behind one that is found only longer ones are looked for.
+fn found(
     bytes: &[u8; 65536],
     i: usize,
     e: usize,
-    starts: &[bool; 256],
     known: &[usize; KNOWN_CELLS],
-    least: usize,
-    k: usize,
-) -> usize
-    requires { Slots bytes.now known.now k × (i ≤ e) × (e ≤ 65536) × Starts (between bytes.now i e) starts.now }
-    ensures { LastFound (between bytes.now i e) bytes.now known.now least k result }
-{
-    let mut j = k;
-    while 0 < j {
-        j -= 1;
-        if has_value(bytes, i, e, starts, known, least, j) {
-            return j;
-        }
-    }
-    k
-}
-
-// The row of the longest of n learnt values that is a whole word of the bytes from index i to index e, which are in lower case, of equally
-// long ones the last; or n. Behind one that is found only longer ones are looked for.
-fn found(bytes: &[u8; 65536], i: usize, e: usize, known: &[usize; KNOWN_CELLS], n: usize) -> usize
+    n: usize,
+) -> Option<usize>
     requires { Slots bytes.now known.now n × (i ≤ e) × (e ≤ 65536) }
     ensures { RowFound (between bytes.now i e) bytes.now known.now 0 n result }
 {
     let mut starts = [false; 256];
-    let all = &bytes[..];
-    word::mark_starts(&all[i..e], &mut starts);
-    let mut best = n;
+    word::mark_starts(&bytes[i..e], &mut starts);
+    let mut best = None;
     let mut least = 0;
-    let mut k = n;
-    loop {
-        let j = last_found(bytes, i, e, &starts, known, least, k);
-        if j == k {
-            return best;
+    for k in (0..n).rev() {
+        if has_value(bytes, i, e, &starts, known, least, k) {
+            best = Some(k);
+            least = known[k * 8 + 2] + 1;
         }
-        best = j;
-        least = known[j * 8 + 2] + 1;
-        k = j;
     }
+    best
 }
 
-// The row of the learnt value for which the sweep acts on a leaf with the text t, or n; work is done in bytes behind the `used` ones of n values. A text of fewer bytes than any learnt value has none.
+// The row of the learnt value for which the sweep acts on a leaf with the text t, or none; work is done in bytes behind the `used` ones of n values. A text of fewer bytes than any learnt value has none.
 pub fn for_sweep(
     s: Separators,
     t: &[u8],
@@ -297,12 +263,12 @@ pub fn for_sweep(
     known: &[usize; KNOWN_CELLS],
     n: usize,
     used: usize,
-) -> usize
+) -> Option<usize>
     requires { GoodKnown bytes.old known.now n used × (length t.now ≤ TEXT_MAX) }
     ensures { Swept s t.now bytes.old bytes.new known.now n used result }
 {
     if t.len() < 3 {
-        return n;
+        return None;
     }
     let end = word::lower_value(t, s, bytes, used);
     found(bytes, used, end, known, n)
@@ -323,7 +289,8 @@ fn put_known(known: &mut [usize], n: usize, h: usize, start: usize, len: usize, 
     known[row + 5] = c.y;
 }
 
-// Learns the value that stands in bytes from index used to index e, of three bytes at least, with the action a, behind n values of `used` bytes, unless it is known.
+// Learns the value that stands in bytes from index used to index e, of three bytes at least, with the action a, behind n values of `used` bytes, unless it is known. Returns how many values are
+// known then, and how many bytes they take; or a refusal, if that is too much.
 fn learn(
     a: Action,
     e: usize,
@@ -331,22 +298,22 @@ fn learn(
     known: &mut [usize; KNOWN_CELLS],
     n: usize,
     used: usize,
-) -> Learnt
+) -> Result<(usize, usize), Refusal>
     requires { GoodKnown bytes.now known.old n used × (used + 3 ≤ e) × (e ≤ 65536) }
     ensures { Learns (learn_value (between bytes.now used e) a) a bytes.now known.old n used bytes.now known.new result }
 {
     let h = hash_of(bytes, used, e);
     if knows(bytes, used, e, h, known, n) {
-        return Learnt::Kept(n, used);
+        return Ok((n, used));
     }
     if (LEARNT_MAX <= n) | (LEARNT_BYTES_MAX < e) {
-        return Learnt::Full;
+        return Err(Refusal::TooMuchLearnt);
     }
     put_known(known, n, h, used, e - used, a);
-    Learnt::Kept(n + 1, e)
+    Ok((n + 1, e))
 }
 
-// Learns what a leaf with the text t says, with the action a, behind n values of `used` bytes.
+// Learns what a leaf with the text t says, with the action a, behind n values of `used` bytes. Returns as `learn` does.
 pub fn learn_leaf(
     a: Action,
     s: Separators,
@@ -355,16 +322,16 @@ pub fn learn_leaf(
     known: &mut [usize; KNOWN_CELLS],
     n: usize,
     used: usize,
-) -> Learnt
+) -> Result<(usize, usize), Refusal>
     requires { GoodKnown bytes.old known.old n used × (length t.now ≤ TEXT_MAX) }
     ensures { Learns (learn_leaf s t.now a) a bytes.old known.old n used bytes.new known.new result }
 {
     if action::is_keep(a) | (t.len() < 3) {
-        return Learnt::Kept(n, used);
+        return Ok((n, used));
     }
     let end = word::lower_value(t, s, bytes, used);
     if end - used < 3 {
-        return Learnt::Kept(n, used);
+        return Ok((n, used));
     }
     learn(a, end, bytes, known, n, used)
 }

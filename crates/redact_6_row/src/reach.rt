@@ -27,17 +27,15 @@ pub enum Reach {
 pub fn touchable(g: Label, p: Place) -> bool
     ensures { result ≡ Message.touchable (as_label g) p }
 {
-    if 2 < p.field {
-        return true;
-    }
-    !is_header_name(g.a, g.b, g.c)
+    2 < p.field || !is_header_name(g.a, g.b, g.c)
 }
 
 // Whether an index of a path, 0 where it is absent, fits the one that was found.
+#[tactic(auto, unfolding(run_model::specs::Redact::fits))]
 pub fn index_fits(wanted: u64, found: usize) -> bool
     ensures { result ≡ fits wanted found }
 {
-    (wanted == 0) | (wanted == found as u64)
+    wanted == 0 || wanted == found as u64
 }
 
 // Whether a path reaches the leaf at p of a segment that it reaches into.

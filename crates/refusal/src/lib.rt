@@ -7,60 +7,61 @@ pub mod limits;
 ghost use Rattle.std.specs.Prelude.{◌≡◌};
 ghost use Rattle.refusal.specs.Refusal as R;
 
-// Why a call is refused, each with its number and its word in the table of refusals.
+// Why a call is refused, by the word and with the number that the table of refusals has for it.
 #[derive(Clone, Copy)]
 pub enum Refusal {
-    // 1, short bench
-    ShortBuffer,
-    // 2, long
-    TooLong,
-    // 3, foreign
-    ForeignByte,
-    // 4, headless
-    BadHeader,
-    // 5, bad segment
-    BadSegment,
-    // 6, crowded
-    TooMany,
-    // 7, bad action
-    BadAction,
-    // 8, bad path
-    BadPath,
-    // 9, bad directive
-    BadDirective,
-    // 10, learnt full
-    TooMuchLearnt,
-    // 11, swollen
-    MessageTooLong,
-    // 12, report full
-    ReportTooLong,
-    // 13, withheld
-    Withheld,
-    // 14, no such built-in
-    NoSuchBuiltin,
-    // 15, day count missing, unreadable or out of range
-    BadDayCount,
+    // short bench
+    ShortBuffer = 1,
+    // long
+    TooLong = 2,
+    // foreign
+    ForeignByte = 3,
+    // headless
+    BadHeader = 4,
+    // bad segment
+    BadSegment = 5,
+    // crowded
+    TooMany = 6,
+    // bad action
+    BadAction = 7,
+    // bad path
+    BadPath = 8,
+    // bad directive
+    BadDirective = 9,
+    // learnt full
+    TooMuchLearnt = 10,
+    // swollen
+    MessageTooLong = 11,
+    // report full
+    ReportTooLong = 12,
+    // withheld
+    Withheld = 13,
+    // no such built-in
+    NoSuchBuiltin = 14,
+    // day count missing, unreadable or out of range
+    BadDayCount = 15,
 }
 
 // The number that a caller gets for a refusal.
+#[tactic(auto, unfolding(crate::specs::Refusal::number))]
 pub fn number(refusal: Refusal) -> u32
     ensures { result ≡ R.number refusal }
 {
-    match refusal {
-        Refusal::ShortBuffer => 1,
-        Refusal::TooLong => 2,
-        Refusal::ForeignByte => 3,
-        Refusal::BadHeader => 4,
-        Refusal::BadSegment => 5,
-        Refusal::TooMany => 6,
-        Refusal::BadAction => 7,
-        Refusal::BadPath => 8,
-        Refusal::BadDirective => 9,
-        Refusal::TooMuchLearnt => 10,
-        Refusal::MessageTooLong => 11,
-        Refusal::ReportTooLong => 12,
-        Refusal::Withheld => 13,
-        Refusal::NoSuchBuiltin => 14,
-        Refusal::BadDayCount => 15,
+    refusal as u32
+}
+
+// A refusal, and the number of the policy's line that is at fault, 0 where none is.
+#[derive(Clone, Copy)]
+pub struct Refused {
+    pub refusal: Refusal,
+    pub line: usize,
+}
+
+#[tactic(auto, unfolding(crate::specs::Refusal::without_line))]
+impl From<Refusal> for Refused {
+    ghost from_gives = { λ refusal r. r ≡ R.without_line refusal };
+
+    fn from(refusal: Refusal) -> Refused {
+        Refused { refusal, line: 0 }
     }
 }

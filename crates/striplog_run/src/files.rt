@@ -1,6 +1,4 @@
 // The three files, read, and what is printed, written.
-ghost use Rattle.std.specs.Prelude.{◌≤◌, length};
-
 use super::strip::strip;
 use reading::read_full;
 use std::fs::File;
@@ -9,41 +7,23 @@ use std::io::{Read, Write};
 use std::rt::Files;
 use striplog_text::key::{Key, feed};
 
-// Whether a file is there, and how many of its bytes were read.
-#[derive(Clone, Copy)]
-struct Loaded {
-    there: bool,
-    len: usize,
-}
-
-// Puts the file's bytes into buf, as many as there is room for.
-fn load<R: Files>(rt: &R, name: &str, buf: &mut [u8]) -> Loaded
-    ensures { result.len ≤ length buf.new }
-{
-    match File::open(rt, name) {
-        Ok(mut file) => Loaded {
-            there: true,
-            len: read_full(&mut file, buf),
-        },
-        Err(_) => Loaded {
-            there: false,
-            len: 0,
-        },
-    }
+// Puts the file's bytes into buf, as many as there is room for, and returns them, if the file is there.
+fn load<'a, R: Files>(rt: &R, name: &str, buf: &'a mut [u8]) -> Option<&'a [u8]> {
+    let mut file = File::open(rt, name).ok()?;
+    let len = read_full(&mut file, buf);
+    Some(&buf[..len])
 }
 
 // Reads the key from a file chunk by chunk to its end; no file has 2^63 bytes.
 fn read_key<F: Read>(file: &mut F) -> Key {
     let mut chunk = [0u8; 4096];
     let mut key = Key::Nothing;
-    let mut left: u64 = 2251799813685248;
-    while 0 < left {
+    for _ in 0..1u64 << 51 {
         let n = read_full(file, &mut chunk);
-        key = feed(key, &chunk[0..n]);
-        if n < 4096 {
-            return key;
+        key = feed(key, &chunk[..n]);
+        if n < chunk.len() {
+            break;
         }
-        left -= 1;
     }
     key
 }
@@ -61,18 +41,9 @@ pub fn run<R: Files + Print>(rt: &R) -> io::Result<()> {
     let mut message = [0u8; 32769];
     let mut policy = [0u8; 32769];
     let mut out = [0u8; 114714];
-    let m = load(rt, "message.er7", &mut message);
-    let p = load(rt, "policy.txt", &mut policy);
+    let message = load(rt, "message.er7", &mut message);
+    let policy = load(rt, "policy.txt", &mut policy);
     let key = load_key(rt, "key.txt");
-    let m_end = m.len;
-    let p_end = p.len;
-    let n = strip(
-        &message[0..m_end],
-        m.there,
-        &policy[0..p_end],
-        p.there,
-        key,
-        &mut out,
-    );
-    io::writer(rt).write_all(&out[0..n])
+    let n = strip(message, policy, key, &mut out);
+    io::writer(rt).write_all(&out[..n])
 }

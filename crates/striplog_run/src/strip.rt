@@ -25,32 +25,23 @@ fn put_redacted(message: &[u8], policy: &[u8], key: u64, out: &mut [u8]) -> usiz
     put_outcome(
         returned.number,
         returned.line,
-        &output[0..text_end],
-        &report[0..report_end],
+        &output[..text_end],
+        &report[..report_end],
         returned.rows,
         out,
     )
 }
 
-// Writes what the program prints to the front of out, and returns its length; has_message and has_policy are false where the file is missing.
-pub fn strip(
-    message: &[u8],
-    has_message: bool,
-    policy: &[u8],
-    has_policy: bool,
-    key: Key,
-    out: &mut [u8],
-) -> usize
+// Writes what the program prints to the front of out, and returns its length; message and policy are None where the file is missing.
+#[tactic(auto, unfolding(striplog_text::specs::Striplog::stripped_with, striplog_text::specs::Key::key_of, crate::specs::Files::file_if))]
+pub fn strip(message: Option<&[u8]>, policy: Option<&[u8]>, key: Key, out: &mut [u8]) -> usize
     requires { 114714 ≤ length out.old }
-    ensures { Wrote out.old 0 (stripped_with (file_if has_message message.now) (file_if has_policy policy.now) (key_of key)) out.new result }
+    ensures { Wrote out.old 0 (stripped_with (file_if message.entry) (file_if policy.entry) (key_of key)) out.new result }
 {
-    if !(has_message & has_policy) {
-        return put_bad_input(out);
-    }
-    match key {
-        Key::Nothing => put_bad_input(out),
-        Key::Digits(n) => put_redacted(message, policy, n, out),
-        Key::Ended(n) => put_redacted(message, policy, n, out),
-        Key::Bad => put_bad_input(out),
+    match (message, policy, key) {
+        (Some(message), Some(policy), Key::Digits(n) | Key::Ended(n)) => {
+            put_redacted(message, policy, n, out)
+        }
+        _ => put_bad_input(out),
     }
 }

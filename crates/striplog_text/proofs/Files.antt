@@ -1,13 +1,7 @@
 -- What the program may read of its files: the first 32,769 bytes of message and policy, and the key chunk by chunk. Assumes nothing.
-use mathlib.Core.Path.{◌≡◌, refl, sym, ap, ◌∙◌}
-use mathlib.Core.Bool.{true}
-use mathlib.Core.List.{List, flatten}
-use mathlib.Core.Option.{Option, none, some}
-use Prim.Native.Nat.{ℕ}
-use native.Mathlib.Omega.{arith}
-use borrow.Author.Tests.{lt-ltb}
-use lib.ListN.{length, take, length-take}
-use lib.Seq.{take_all}
+use Rattle.std.proofs.Common.{◌≡◌, refl, sym, ap, ◌∙◌, true, List, ℕ, arith, lt-ltb, length, take, length-take, take_all}
+use mathlib.Core.List.{flatten}
+use Rattle.std.proofs.Math.Option.{Option, none, some}
 use Rattle.text.specs.Text.{Text}
 use Rattle.text.proofs.Laws.{split}
 use Rattle.refusal.specs.declared.Refusal.TheVariants.{TooLong}

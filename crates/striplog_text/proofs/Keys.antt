@@ -1,18 +1,10 @@
 -- Laws of the key: what the reader makes of a byte, and that it reads the key that is defined. Assumes nothing.
-use mathlib.Core.Path.{◌≡◌, refl, sym, ◌∙◌}
-use mathlib.Core.Bool.{Bool, true, false, cond, ◌&&◌}
-use mathlib.Core.List.{List, [], ◌∷◌, ◌++◌, flatten}
-use mathlib.Core.Option.{Option, none, some}
-use Prim.Native.Nat.{ℕ, ◌+◌, ◌*◌, ◌-◌, ◌^◌, ◌≤◌, ◌<◌}
-use native.Mathlib.Omega.{arith}
-use borrow.Author.Tests.{lt-ltb, le-ltb, ltb-true, ltb-false, eq-eqb, ne_eqb}
-use lib.Dec.{eqb, ltb}
-use lib.ListN.{length, drop, get_or, drop_of_length-le}
-use Rattle.text.specs.declared.bytes.Class.TheVariants.{Digit}
-use Rattle.text.specs.Text.{Text, is_digit, is_in, is_empty, same, run, rest}
+use Rattle.std.proofs.Common.{◌≡◌, refl, sym, ◌∙◌, fold, Bool, true, false, cond, ◌&&◌, List, [], ◌∷◌, ◌++◌, ℕ, ◌+◌, ◌*◌, ◌-◌, ◌^◌, ◌≤◌, ◌<◌, arith, lt-ltb, le-ltb, ltb-true, ltb-false, eqb, ltb}
+use mathlib.Core.List.{flatten}
+use Rattle.std.proofs.Math.Option.{Option, none, some}
+use Rattle.text.specs.Text.{Text, is_digit, is_empty, same, run, rest}
 use Rattle.text.specs.Number.{worth, taken, refused, take_number}
-use Rattle.text.proofs.Decimals.{digit_low, digit_high}
-use Rattle.text.proofs.Runs.{drop_step}
+use Rattle.text.proofs.Decimals.{digit_high}
 use Rattle.striplog_text.specs.declared.key.Key.{Key}
 use Rattle.striplog_text.specs.declared.key.Key.TheVariants.{Nothing, Digits, Ended, Bad}
 use Rattle.striplog_text.specs.Striplog.{at_most_lf, key_taken, read_key}
@@ -29,74 +21,12 @@ module _ (n d : ℕ) where
   unfolding with_digit
   digit_large h = rw (le-ltb (n * 10 + d) (2 ^ 64) h)
 
--- what a test of the class says of a byte
-module _ (x : ℕ) {t : Bool} (e : t ≡ is_in Digit x) where
-  is_digit_lem : t ≡ true → is_digit x ≡ true
-  unfolding is_in
-  is_digit_lem h = sym e ∙ h
+-- ---- a chunk
 
-  no_digit : t ≡ false → is_digit x ≡ false
-  unfolding is_in
-  no_digit h = sym e ∙ h
-
-  pub low : t ≡ true → 48 ≤ x
-  low h = digit_low x (is_digit_lem h)
-
-  pub below_ten : t ≡ true → x - 48 < 10
-  below_ten h = omega (arith, digit_high x (is_digit_lem h))
-
-  module _ (n : ℕ) where
-    pub behind_digit : {r : Key} → t ≡ true → r ≡ with_digit n (x - 48) → r ≡ behind_digits n x
-    unfolding behind_digits
-    behind_digit h k = k ∙ rw (is_digit_lem h)
-
-    pub behind_line_feed : t ≡ false → x ≡ 10 → Ended n ≡ behind_digits n x
-    unfolding behind_digits
-    behind_line_feed h k = rw (no_digit h, eq-eqb x 10 k)
-
-    pub behind_other : t ≡ false → (x ≡ 10 → ⊥) → Bad ≡ behind_digits n x
-    unfolding behind_digits
-    behind_other h k = rw (no_digit h, ne_eqb x 10 k)
-
-  module _ {k : Key} (q : k ≡ Nothing) where
-    pub first_digit : {r : Key} → t ≡ true → r ≡ with_digit 0 (x - 48) → r ≡ fed_byte k x
-    unfolding fed_byte
-    first_digit h p = p ∙ rw (q, is_digit_lem h)
-
-    pub first_other : t ≡ false → Bad ≡ fed_byte k x
-    unfolding fed_byte
-    first_other h = rw (q, no_digit h)
-
-module _ (x : ℕ) {k : Key} where
-  pub next_byte : {n : ℕ} {r : Key} → k ≡ Digits n → r ≡ behind_digits n x → r ≡ fed_byte k x
-  unfolding fed_byte
-  next_byte q p = p ∙ rw q
-
-  pub ended_byte : {n : ℕ} → k ≡ Ended n → Bad ≡ fed_byte k x
-  unfolding fed_byte
-  ended_byte q = rw q
-
-  pub bad_byte : k ≡ Bad → Bad ≡ fed_byte k x
-  unfolding fed_byte
-  bad_byte q = rw q
-
--- ---- a chunk: what stands before index j has made k₀ to k
-
-pub record Feeding (k₀ : Key) (s : Text) (j : ℕ) (k : Key) : Type 0 where
-  pub high : j ≤ length s
-  pub left : fed k₀ s ≡ fed k (drop j s)
-
-pub feeding_start : (k₀ : Key) (s : Text) → Feeding k₀ s 0 k₀
-feeding_start k₀ s = record { high = omega arith; left = refl }
-
-module _ {k₀ k : Key} {s : Text} {j : ℕ} (g : Feeding k₀ s j k) where
-  pub feeding_more : {r : Key} → j < length s → r ≡ fed_byte k (get_or s j 0) → Feeding k₀ s (j + 1) r
-  unfolding fed
-  feeding_more h e = record { high = omega arith; left = g.left ∙ rw (drop_step s j h, e) }
-
-  pub feeding_end : length s ≤ j → k ≡ fed k₀ s
-  unfolding fed
-  feeding_end h = sym (g.left ∙ rw (drop_of_length-le s h))
+pub fed_fold : (k : Key) (s : Text) → fold fed_byte k s ≡ fed k s
+unfolding fed
+fed_fold k [] = refl
+fed_fold k (x ∷ s) = fed_fold (fed_byte k x) s
 
 -- ---- the reader reads the key that is defined
 

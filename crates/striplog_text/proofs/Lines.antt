@@ -1,10 +1,5 @@
 -- Laws of the printed lines: their lengths, and writing them part by part. Assumes nothing.
-use mathlib.Core.Path.{◌≡◌}
-use mathlib.Core.List.{[], ◌∷◌, ◌++◌}
-use Prim.Native.Nat.{ℕ, ◌+◌, ◌^◌, ◌≤◌, ◌<◌}
-use native.Mathlib.Omega.{arith}
-use borrow.Author.Tests.{eq-eqb, ne_eqb}
-use lib.ListN.{length, length-append}
+use Rattle.std.proofs.Common.{◌≡◌, [], ◌∷◌, ◌++◌, ℕ, ◌+◌, ◌^◌, ◌≤◌, ◌<◌, arith, eq-eqb, ne_eqb, length, length-append}
 use Rattle.text.specs.Text.{Text, bytes, Wrote}
 use Rattle.text.specs.Number.{decimal}
 use Rattle.text.proofs.Decimals.{length_u64}

@@ -1,5 +1,5 @@
 // The key of key.txt, read chunk by chunk: leading zeros are allowed, so a file of any length may hold one.
-ghost use Rattle.std.specs.Prelude.{◌≡◌, ◌<◌};
+ghost use Rattle.std.specs.Prelude.{◌≡◌};
 ghost use Rattle.striplog_text.specs.Key.{with_digit, behind_digits, fed_byte, fed};
 
 use text::bytes::{Class, is_in};
@@ -14,22 +14,23 @@ pub enum Key {
 }
 
 // The digit d behind digits worth n.
+#[tactic(auto, unfolding(crate::specs::Key::with_digit))]
 fn with_digit(n: u64, d: u64) -> Key
-    requires { d < 10 }
     ensures { result ≡ with_digit n d }
 {
-    if n <= (18446744073709551615 - d) / 10 {
-        return Key::Digits(n * 10 + d);
+    match n.checked_mul(10).and_then(|n| n.checked_add(d)) {
+        Some(n) => Key::Digits(n),
+        None => Key::Bad,
     }
-    Key::Bad
 }
 
 // The byte b behind digits worth n.
+#[tactic(auto, using(text::proofs::Decimals::digit_low, text::proofs::Decimals::digit_high), unfolding(text::specs::Text::is_in, crate::specs::Key::behind_digits))]
 fn behind_digits(n: u64, b: u8) -> Key
     ensures { result ≡ behind_digits n b }
 {
     if is_in(Class::Digit, b) {
-        return with_digit(n, (b - 48) as u64);
+        return with_digit(n, (b - b'0') as u64);
     }
     if b == b'\n' {
         return Key::Ended(n);
@@ -38,13 +39,14 @@ fn behind_digits(n: u64, b: u8) -> Key
 }
 
 // The byte b behind the bytes so far.
+#[tactic(auto, using(text::proofs::Decimals::digit_low, text::proofs::Decimals::digit_high), unfolding(text::specs::Text::is_in, crate::specs::Key::fed_byte))]
 fn feed_byte(key: Key, b: u8) -> Key
     ensures { result ≡ fed_byte key b }
 {
     match key {
         Key::Nothing => {
             if is_in(Class::Digit, b) {
-                return with_digit(0, (b - 48) as u64);
+                return with_digit(0, (b - b'0') as u64);
             }
             Key::Bad
         }
@@ -58,11 +60,5 @@ fn feed_byte(key: Key, b: u8) -> Key
 pub fn feed(key: Key, chunk: &[u8]) -> Key
     ensures { result ≡ fed key chunk.now }
 {
-    let mut k = key;
-    let mut j = 0;
-    while j < chunk.len() {
-        k = feed_byte(k, chunk[j]);
-        j += 1;
-    }
-    k
+    chunk.iter().fold(key, |key, b| feed_byte(key, *b))
 }

@@ -7,6 +7,7 @@ use text::bytes::{byte_at, copy_at};
 use text::decimal::decimal_at;
 
 // Writes `rows N` and LF to out from index at on, and returns the index behind it.
+#[tactic(auto, using(text::proofs::Writes::wrote_length, crate::proofs::Lines::rows_length), unfolding(text::specs::Text::bytes))]
 pub fn put_rows(n: u64, out: &mut [u8], at: usize) -> usize
     requires { at + length (rows_line n) ≤ length out.old }
     ensures { Wrote out.old at (rows_line n) out.new result }
@@ -17,6 +18,7 @@ pub fn put_rows(n: u64, out: &mut [u8], at: usize) -> usize
 }
 
 // Writes `refused N line L` and LF to out from index at on, and returns the index behind it.
+#[tactic(auto, using(text::proofs::Writes::wrote_length, crate::proofs::Lines::refused_length), unfolding(text::specs::Text::bytes))]
 pub fn put_refused(number: u32, line: u64, out: &mut [u8], at: usize) -> usize
     requires { at + length (refused_line number line) ≤ length out.old }
     ensures { Wrote out.old at (refused_line number line) out.new result }
@@ -28,7 +30,9 @@ pub fn put_refused(number: u32, line: u64, out: &mut [u8], at: usize) -> usize
     byte_at(out, e, b'\n')
 }
 
-// Writes what a call comes to, its text and report cut to their lengths, to the front of out, and returns the length.
+// Writes what a call comes to, its text and report cut to their lengths, to the front of out, and returns the length. Number and line are as
+// C gets them: the number is 0 where nothing is refused.
+#[tactic(auto, using(text::proofs::Writes::wrote_length, crate::proofs::Lines::success_length, crate::proofs::Lines::refusal_length))]
 pub fn put_outcome(
     number: u32,
     line: u64,
@@ -49,6 +53,7 @@ pub fn put_outcome(
 }
 
 // Writes `bad input` and LF to the front of out, and returns the length.
+#[tactic(auto, unfolding(text::specs::Text::bytes, crate::specs::Striplog::bad_input))]
 pub fn put_bad_input(out: &mut [u8]) -> usize
     requires { 10 ≤ length out.old }
     ensures { Wrote out.old 0 bad_input out.new result }

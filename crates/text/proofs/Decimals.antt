@@ -4,17 +4,18 @@ use mathlib.Core.Bool.{Bool, true, false, not, ◌&&◌}
 use mathlib.Core.List.{[], ◌∷◌, ◌++◌}
 use Prim.Native.Nat.{ℕ, zero, suc, ◌+◌, ◌*◌, ◌-◌, ◌/◌, ◌%◌, ◌^◌, ◌≤◌, ◌<◌}
 use native.Mathlib.Omega.{arith}
-use borrow.Author.Tests.{lt-ltb, le-ltb, le-leb, lt-leb, ltb-true, ltb-false, not-true, not-false}
-use lib.Dec.{leb, ltb}
-use lib.ListN.{length, drop, get_or, set, length-append}
+use borrow.Author.Tests.{lt-ltb, le-ltb, le-leb, ltb-true, not-true}
+use lib.Dec.{ltb}
+use lib.ListN.{length, drop, get_or, set, length-append, length-take, length-drop}
 use Rattle.text.specs.declared.bytes.Class.TheVariants.{Digit}
-use Rattle.text.specs.declared.decimal.Number.{Number}
-use Rattle.text.specs.declared.decimal.Number.TheVariants.{At, Refused}
-use Rattle.text.specs.Text.{Text, is_digit, is_in, is_empty, run, rest, Wrote, all}
+use Rattle.std.proofs.Common.{Option, Some, None, drop_of_length-le, take, cond, ap}
+use Rattle.std.proofs.lemmas.Option.{cond_some, none-some}
+use Rattle.text.proofs.Runs.{drop_step}
+use Rattle.text.specs.Text.{Text, is_digit, is_in, is_empty, run, rest, part, RunEnd, Wrote, all}
 use Rattle.text.specs.Number.{digits, decimal, worth, Taken, taken, refused, take_number, as_taken, TakenAt}
-use Rattle.text.specs.Inner.{has_room}
+use Rattle.text.specs.Inner.{in_64_bits}
 use Rattle.text.proofs.Laws.{split, at_least, at_most, and_left, and_right, and_true, by_cond, clash}
-use Rattle.text.proofs.Runs.{run_yes, run_no, run_none, rest_yes, rest_no, rest_none, stop, run_all, rest_all, all_append, all_run, run_rest_length}
+use Rattle.text.proofs.Runs.{stop, run_all, rest_all, all_append, all_run, run_rest_length}
 use Rattle.text.proofs.Writes.{wrote_byte, wrote_length, wrote_then}
 
 -- ---- printing
@@ -50,6 +51,11 @@ pub length_most : (k n : ℕ) → n < 10 ^ suc k → length (decimal n) ≤ suc 
 length_most zero n h = omega (arith, length_small n (omega arith))
 length_most (suc k) n h = split n 10 (λ l. omega (arith, length_small n l)) (λ l. omega (arith, length_more n l, length_most k (n / 10) (omega arith)))
 
+-- .. and no fewer from 10 ^ k on
+pub length_is : (k n : ℕ) → 10 ^ k ≤ n → n < 10 * 10 ^ k → length (decimal n) ≡ k + 1
+length_is zero n l h = omega (arith, length_small n (omega arith))
+length_is (suc k) n l h = omega (arith, length_more n (omega arith), length_is k (n / 10) (omega arith) (omega arith))
+
 pub length_u64 : (n : ℕ) → n < 2 ^ 64 → length (decimal n) ≤ 20
 length_u64 n h = length_most 19 n (omega arith)
 
@@ -69,101 +75,39 @@ unfolding worth
 worth_grows n [] = omega arith
 worth_grows n (x ∷ t) = omega (arith, worth_grows (n * 10 + (x - 48)) t)
 
--- what the digits from index j on are worth behind n
-unfoldable pub worth_from : ℕ → Text → ℕ → ℕ
-worth_from n s j = worth n (run is_digit (drop j s))
+-- ---- digits that have been read up to index j are worth n so far
 
-module _ (s : Text) (j n : ℕ) where
-  worth_more : j < length s → is_digit (get_or s j 0) ≡ true → worth_from n s j ≡ worth_from (n * 10 + (get_or s j 0 - 48)) s (j + 1)
-  unfolding worth_from worth
-  worth_more h e = rw (run_yes is_digit s j h e)
-
-  worth_end : run is_digit (drop j s) ≡ [] → worth_from n s j ≡ n
-  unfolding worth_from worth
-  worth_end e = rw e
-
-full_run : (s : Text) (j : ℕ) → j < length s → is_digit (get_or s j 0) ≡ true → is_empty (run is_digit (drop j s)) ≡ false
-unfolding is_empty
-full_run s j h e = rw (run_yes is_digit s j h e)
-
--- the digits from index i on are worth n up to index j
-pub record Counting (s : Text) (i j n : ℕ) : Type 0 where
-  pub low : i ≤ j
-  pub high : j ≤ length s
+pub record Reading (s : Text) (j n : ℕ) : Type 0 where
   pub small : n < 2 ^ 64
-  pub full : i < j → is_empty (run is_digit (drop i s)) ≡ false
-  pub worth_is : worth_from 0 s i ≡ worth_from n s j
-  pub rest_is : rest is_digit (drop i s) ≡ rest is_digit (drop j s)
+  pub worth_is : worth 0 s ≡ worth n (drop j s)
 
-pub counting_start : (s : Text) (i : ℕ) → i ≤ length s → Counting s i i 0
-counting_start s i h =
-    record { low = omega arith; high = h; small = omega arith; full = λ k. absurd (omega arith); worth_is = refl; rest_is = refl }
+pub reading_start : (s : Text) → Reading s 0 0
+reading_start s = record { small = omega arith; worth_is = refl }
 
-module _ {s : Text} {i j n : ℕ} (g : Counting s i j n) where
-  full_here : j < length s → is_digit (get_or s j 0) ≡ true → is_empty (run is_digit (drop i s)) ≡ false
-  full_here h e = split i j g.full (λ q. let x : i ≡ j = omega (arith, g.low) in rw x (full_run s j h e))
+module _ {s : Text} {j n : ℕ} (g : Reading s j n) (h : j < length s) where
+  next : worth 0 s ≡ worth (n * 10 + (get_or s j 0 - 48)) (drop (j + 1) s)
+  unfolding worth
+  next = g.worth_is ∙ rw (drop_step s j h)
 
-  pub counting_more : j < length s → is_digit (get_or s j 0) ≡ true → has_room n (get_or s j 0 - 48) ≡ true → Counting s i (j + 1) (n * 10 + (get_or s j 0 - 48))
-  unfolding has_room
-  counting_more h e f = record {
-    low = omega (arith, g.low);
-    high = omega arith;
-    small = ltb-true _ _ f;
-    full = λ k. full_here h e;
-    worth_is = g.worth_is ∙ worth_more s j n h e;
-    rest_is = g.rest_is ∙ rest_yes is_digit s j h e;
-  }
+  pub reading_more : n * 10 + (get_or s j 0 - 48) < 2 ^ 64 → Reading s (j + 1) (n * 10 + (get_or s j 0 - 48))
+  reading_more f = record { small = f; worth_is = next }
 
-  number_none : i ≡ j → run is_digit (drop j s) ≡ [] → TakenAt take_number s i Refused
-  unfolding take_number as_taken is_empty
-  number_none q e = record { is = rw (q, e); inside = tt }
+  pub reading_over : 2 ^ 64 ≤ n * 10 + (get_or s j 0 - 48) → in_64_bits (worth 0 s) ≡ None
+  unfolding in_64_bits
+  reading_over f =
+      let k = worth_grows (n * 10 + (get_or s j 0 - 48)) (drop (j + 1) s) in
+      rw (le-ltb (worth 0 s) (2 ^ 64) (rw next (omega arith)))
 
-  number_found : (i ≡ j → ⊥) → run is_digit (drop j s) ≡ [] → rest is_digit (drop j s) ≡ drop j s → TakenAt take_number s i (At n j)
-  unfolding take_number as_taken worth_from
-  number_found q e f = record {
-    is = sym (rw (g.full (omega (arith, g.low)), g.worth_is ∙ worth_end s j n e, g.rest_is ∙ f, lt-ltb n (2 ^ 64) g.small));
-    inside = (g.low, g.high);
-  }
+pub reading_end : {s : Text} {j n : ℕ} → Reading s j n → length s ≤ j → in_64_bits (worth 0 s) ≡ Some n
+unfolding in_64_bits worth
+reading_end {s} {j} {n} g h = let e : worth 0 s ≡ n = g.worth_is ∙ rw (drop_of_length-le s h) in rw (e, lt-ltb n (2 ^ 64) g.small)
 
-  pub number_none_here : i ≡ j → j < length s → is_digit (get_or s j 0) ≡ false → TakenAt take_number s i Refused
-  number_none_here q h e = number_none q (run_no is_digit s j h e)
-
-  pub number_none_left : i ≡ j → length s ≤ j → TakenAt take_number s i Refused
-  number_none_left q h = number_none q (run_none is_digit s j h)
-
-  pub number_stops : (i ≡ j → ⊥) → j < length s → is_digit (get_or s j 0) ≡ false → TakenAt take_number s i (At n j)
-  number_stops q h e = number_found q (run_no is_digit s j h e) (rest_no is_digit s j h e)
-
-  pub number_ends : (i ≡ j → ⊥) → length s ≤ j → TakenAt take_number s i (At n j)
-  number_ends q h = number_found q (run_none is_digit s j h) (rest_none is_digit s j h)
-
-  pub number_large : j < length s → is_digit (get_or s j 0) ≡ true → has_room n (get_or s j 0 - 48) ≡ false → TakenAt take_number s i Refused
-  unfolding take_number as_taken worth_from has_room
-  number_large h e f =
-      let m = n * 10 + (get_or s j 0 - 48) in
-      let k = worth_grows m (run is_digit (drop (j + 1) s)) in
-      let b = ltb-false m (2 ^ 64) f in
-      let q : 2 ^ 64 ≤ worth 0 (run is_digit (drop i s)) = rw (g.worth_is ∙ worth_more s j n h e) (omega arith) in
-      record { is = sym (rw (full_here h e, le-ltb (worth 0 (run is_digit (drop i s))) (2 ^ 64) q)); inside = tt }
-
-pub has_room_lem : (n d : ℕ) → d < 10 → leb n ((18446744073709551615 - d) / 10) ≡ has_room n d
-unfolding has_room
-has_room_lem n d h = split (n * 10 + d) (2 ^ 64)
-    (λ l. rw (lt-ltb (n * 10 + d) (2 ^ 64) l, le-leb n ((18446744073709551615 - d) / 10) (omega arith)))
-    (λ l. rw (le-ltb (n * 10 + d) (2 ^ 64) l, lt-leb n ((18446744073709551615 - d) / 10) (omega arith)))
-
-pub room_true : (n d : ℕ) → has_room n d ≡ true → n * 10 + d < 2 ^ 64
-unfolding has_room
-room_true n d e = ltb-true (n * 10 + d) (2 ^ 64) e
-
--- what a test of the class says of a byte
-pub digit_yes : (x : ℕ) {t : Bool} → t ≡ is_in Digit x → not t ≡ false → is_digit x ≡ true
-unfolding is_in
-digit_yes x e h = sym e ∙ not-false _ h
-
-pub digit_no : (x : ℕ) {t : Bool} → t ≡ is_in Digit x → not t ≡ true → is_digit x ≡ false
-unfolding is_in
-digit_no x e h = sym e ∙ not-true _ h
+-- the byte at index j of digits is a digit
+pub digit_at : (s : Text) (j : ℕ) → j < length s → all is_digit s ≡ true → is_digit (get_or s j 0) ≡ true
+unfolding all
+digit_at [] j h e = absurd (omega arith)
+digit_at (x ∷ s) zero h e = and_left (is_digit x) (all is_digit s) e
+digit_at (x ∷ s) (suc j) h e = digit_at s j (omega arith) (and_right (is_digit x) (all is_digit s) e)
 
 pub digit_low : (x : ℕ) → is_digit x ≡ true → 48 ≤ x
 unfolding is_digit
@@ -173,11 +117,57 @@ pub digit_high : (x : ℕ) → is_digit x ≡ true → x ≤ 57
 unfolding is_digit
 digit_high x h = at_most 48 x 57 h
 
+-- ---- a number from index i on, whose digits end at index e
+
+module _ {s : Text} {i e : ℕ} (g : RunEnd (is_in Digit) s i e) where
+  digits_are : take (e - i) (drop i s) ≡ run is_digit (drop i s)
+  unfolding part is_in
+  digits_are = g.run_is
+
+  behind : drop e s ≡ rest is_digit (drop i s)
+  unfolding is_in
+  behind = g.rest_is
+
+  pub all_digits : all is_digit (take (e - i) (drop i s)) ≡ true
+  all_digits = rw digits_are (all_run is_digit (drop i s))
+
+  pub no_digits : e ≡ i → TakenAt take_number s i None
+  unfolding take_number as_taken is_empty
+  no_digits q =
+      let z : e - i ≡ 0 = omega arith in
+      let r : run is_digit (drop i s) ≡ [] = sym digits_are ∙ rw z in
+      record { is = rw r; inside = tt }
+
+  some_digits : (e ≡ i → ⊥) → is_empty (run is_digit (drop i s)) ≡ false
+  unfolding is_empty
+  some_digits q = go (run is_digit (drop i s)) (ap length (sym digits_are) ∙ part_length)
+    where
+      part_length : length (take (e - i) (drop i s)) ≡ e - i
+      part_length = simp length-take (simp length-drop (omega (arith, g.high)))
+
+      go : (t : Text) → length t ≡ e - i → is_empty t ≡ false
+      go [] l = absurd (q (omega (arith, l, g.low)))
+      go (x ∷ t) l = refl
+
+  pub number_large : (e ≡ i → ⊥) → None ≡ in_64_bits (worth 0 (take (e - i) (drop i s))) → TakenAt take_number s i None
+  unfolding take_number as_taken in_64_bits
+  number_large q f = record { is = go _ (rw digits_are at f); inside = tt }
+    where
+      go : (b : Bool) → None ≡ cond b (Some (worth 0 (run is_digit (drop i s)))) None → refused ≡ cond (not (is_empty (run is_digit (drop i s))) && b) (taken (worth 0 (run is_digit (drop i s))) (rest is_digit (drop i s))) refused
+      go true h = absurd (none-some _ h)
+      go false h = rw (some_digits q) refl
+
+  pub number_found : {n : ℕ} → (e ≡ i → ⊥) → Some n ≡ in_64_bits (worth 0 (take (e - i) (drop i s))) → TakenAt take_number s i (Some (n, e))
+  unfolding take_number as_taken in_64_bits
+  number_found {n} q f =
+      let p = cond_some _ _ _ (sym (rw digits_are at f)) in
+      record { is = sym (rw (some_digits q, p.0, p.1, behind)); inside = (g.low, g.high) }
+
 -- an answer, as the arm of a match knows it
-pub known : {f : Text → Taken} {s : Text} {i : ℕ} {a b : Number} → TakenAt f s i a → a ≡ b → TakenAt f s i b
+pub known : {f : Text → Taken} {s : Text} {i : ℕ} {a b : Option (ℕ × ℕ)} → TakenAt f s i a → a ≡ b → TakenAt f s i b
 known {f} {s} {i} g e = subst (TakenAt f s i) e g
 
-pub known_end : {f : Text → Taken} {s : Text} {i n r : ℕ} {a : Number} → TakenAt f s i a → a ≡ At n r → r ≤ length s
+pub known_end : {f : Text → Taken} {s : Text} {i n r : ℕ} {a : Option (ℕ × ℕ)} → TakenAt f s i a → a ≡ Some (n, r) → r ≤ length s
 known_end g e = (known g e).inside.1
 
 -- ---- what was printed is read

@@ -1,5 +1,8 @@
 -- Laws of tests. Assumes nothing.
-use mathlib.Core.Path.{◌≡◌, refl}
+use mathlib.Core.Path.{◌≡◌, refl, ap}
+use Rattle.std.proofs.Common.{Result, Ok, Err}
+use Rattle.std.specs.Result.{result_ok, result_err}
+use Rattle.std.proofs.lemmas.Option.{same_Some}
 use mathlib.Core.Bool.{Bool, true, false, cond, ◌&&◌, ◌||◌}
 use mathlib.Core.Option.{Option, none, some}
 use Prim.Native.Nat.{ℕ, ◌≤◌, ◌<◌}
@@ -61,3 +64,12 @@ zero_or n f g = split 0 n g (λ h. f (omega arith))
 abbrev pub Maybe : {X : Type 0} → (X → Type 0) → Option X → Type 0
 Maybe P none = Unit {0}
 Maybe P (some x) = P x
+
+-- ---- results
+
+pub same_ok : {A E : Type 0} (x y : A) → ◌≡◌ {A = Result A E} (Ok x) (Ok y) → x ≡ y
+same_ok x y e = same_Some x y (ap result_ok e)
+
+-- an error stands beside a value of any type
+pub same_err : {A B E : Type 0} (x y : E) → ◌≡◌ {A = Result A E} (Err x) (Err y) → ◌≡◌ {A = Result B E} (Err x) (Err y)
+same_err x y e = ap Err (same_Some x y (ap result_err e))

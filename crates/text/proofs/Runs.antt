@@ -1,16 +1,14 @@
 -- Laws of runs. Assumes nothing.
-use mathlib.Core.Path.{◌≡◌, refl, sym, ap, ◌∙◌}
-use mathlib.Core.Bool.{Bool, true, false, not}
-use mathlib.Core.List.{[], ◌∷◌, ◌++◌, append-nil, append_assoc}
-use Prim.Native.Nat.{ℕ, ◌+◌, ◌-◌, ◌≤◌, ◌<◌}
-use native.Mathlib.Nat.{sub_self, add-sub_cancel_left}
-use native.Mathlib.Numerals.{add-one}
-use native.Mathlib.Omega.{arith}
-use borrow.Author.Tests.{not-true}
-use lib.ListN.{length, take, drop, get_or, length-append, length-take, length-drop, drop_of_length-le}
-use lib.Seq.{drop-cons, take_all, take-suc, take-take, take-add, drop_at, drop-drop, get_or-drop}
+use Rattle.std.proofs.Common.{◌≡◌, refl, sym, ap, ◌∙◌, subst, Bool, true, false, not, cond, [], ◌∷◌, ◌++◌, ℕ, suc, ◌+◌, ◌-◌, ◌≤◌, ◌<◌, length, take, drop, get_or, length-append, length-take, length-drop, arith, Some, None, position, unwrap_or, add-one, drop_of_length-le, take_all, take-add, drop-cons, take-suc, take-take, drop_at, get_or-drop}
+use Rattle.std.specs.List.{position_or_len}
+use Rattle.std.specs.Option.{is_some}
+use Rattle.std.proofs.Math.Dec.{ltb}
+use Rattle.std.proofs.lemmas.Bool.{ltb-false, not-true}
+use Rattle.std.proofs.lemmas.List.Sums.{prefix_len-le-length}
+use Rattle.std.proofs.lemmas.List.{drop-drop}
+use native.Mathlib.Nat.{add-sub_cancel_left}
 use Rattle.text.specs.Text.{Text, run, rest, part, between, RunEnd, RunTo, all}
-use Rattle.text.proofs.Laws.{and_left, and_right, and_true, by_cond}
+use Rattle.text.proofs.Laws.{and_left, and_right, and_true, by_cond, clash}
 
 -- the next byte of what is left
 pub drop_step : (s : Text) (i : ℕ) → i < length s → drop i s ≡ get_or s i 0 ∷ drop (i + 1) s
@@ -47,39 +45,61 @@ module _ (p : ℕ → Bool) (s : Text) (j : ℕ) where
   unfolding rest
   rest_none h = rw (drop_of_length-le s h)
 
--- a run that begins at index i and has come to index j
-pub record Running (p : ℕ → Bool) (s : Text) (i j : ℕ) : Type 0 where
-  pub low : i ≤ j
-  pub high : j ≤ length s
-  pub run_is : run p (drop i s) ≡ part s i (j - i) ++ run p (drop j s)
-  pub rest_is : rest p (drop i s) ≡ rest p (drop j s)
+-- ---- a run up to the first byte that is not of it
 
-pub running_start : (p : ℕ → Bool) (s : Text) (i : ℕ) → i ≤ length s → Running p s i i
-unfolding part
-running_start p s i h = record { low = omega arith; high = h; run_is = rw (sub_self i); rest_is = refl }
+one_more : (n : ℕ) → 1 + n ≡ suc n
+one_more n = omega arith
 
-pub running_more : {p : ℕ → Bool} {s : Text} {i j : ℕ} → Running p s i j → j < length s → p (get_or s j 0) ≡ true → Running p s i (j + 1)
-running_more {p} {s} {i} {j} g h e =
-    let n : j + 1 - i ≡ j - i + 1 = omega (arith, g.low) in record {
-      low = omega (arith, g.low);
-      high = omega arith;
-      run_is = g.run_is ∙ rw (run_yes p s j h e, n, part_more s i (j - i) j (omega (arith, g.low)) h, append_assoc);
-      rest_is = g.rest_is ∙ rest_yes p s j h e;
-    }
+module _ (p : ℕ → Bool) where
+  run_front : (s : Text) → take (position_or_len (λ x. not (p x)) s) s ≡ run p s
+  unfolding run
+  run_front [] = refl
+  run_front (x ∷ s) = go (p x) (run_front s)
+    where
+      go : (b : Bool) → take (position_or_len (λ x. not (p x)) s) s ≡ run p s → take (cond (not (not b)) (1 + position_or_len (λ x. not (p x)) s) 0) (x ∷ s) ≡ cond b (x ∷ run p s) []
+      go true e = rw (one_more (position_or_len (λ x. not (p x)) s)) (ap (λ (t : Text). x ∷ t) e)
+      go false e = refl
 
-running_done : {p : ℕ → Bool} {s : Text} {i j : ℕ} → Running p s i j → run p (drop j s) ≡ [] → rest p (drop j s) ≡ drop j s → RunEnd p s i j
-running_done {p} {s} {i} {j} g e f = record {
-  low = g.low;
-  high = g.high;
-  run_is = sym (g.run_is ∙ rw (e, append-nil));
-  rest_is = sym (g.rest_is ∙ f);
-}
+  rest_behind : (s : Text) → drop (position_or_len (λ x. not (p x)) s) s ≡ rest p s
+  unfolding rest
+  rest_behind [] = refl
+  rest_behind (x ∷ s) = go (p x) (rest_behind s)
+    where
+      go : (b : Bool) → drop (position_or_len (λ x. not (p x)) s) s ≡ rest p s → drop (cond (not (not b)) (1 + position_or_len (λ x. not (p x)) s) 0) (x ∷ s) ≡ cond b (rest p s) (x ∷ s)
+      go true e = rw (one_more (position_or_len (λ x. not (p x)) s)) e
+      go false e = refl
 
-pub running_stop : {p : ℕ → Bool} {s : Text} {i j : ℕ} → Running p s i j → j < length s → p (get_or s j 0) ≡ false → RunEnd p s i j
-running_stop {p} {s} {i} {j} g h e = running_done g (run_no p s j h e) (rest_no p s j h e)
+  run_ends : {s : Text} {i : ℕ} (n : ℕ) → i ≤ length s → n ≡ position_or_len (λ x. not (p x)) (drop i s) → RunEnd p s i (i + n)
+  unfolding part
+  run_ends {s} {i} n h e =
+      let k = prefix_len-le-length (λ x. not (not (p x))) (drop i s) in record {
+        low = omega arith;
+        high = omega (arith, k, e, length-drop i s);
+        run_is = rw (add-sub_cancel_left i n, e) (run_front (drop i s));
+        rest_is = rw (← drop-drop n i s, e) (rest_behind (drop i s));
+      }
 
-pub running_end : {p : ℕ → Bool} {s : Text} {i j : ℕ} → Running p s i j → length s ≤ j → RunEnd p s i j
-running_end {p} {s} {i} {j} g h = running_done g (run_none p s j h) (rest_none p s j h)
+  -- what is looked at from index i on is what is left there
+  left : (s : Text) (i : ℕ) → take (length s - i) (drop i s) ≡ drop i s
+  left s i = take_all (length s - i) (drop i s) (omega (arith, length-drop i s))
+
+  pub run_found : {s : Text} {i n : ℕ} → i ≤ length s → Some n ≡ position (λ x. not (p x)) (take (length s - i) (drop i s)) → RunEnd p s i (i + n)
+  run_found {s} {i} {n} h e = run_ends n h (go _ (rw (left s i) at e))
+    where
+      go : (b : Bool) → Some n ≡ cond b (Some (position_or_len (λ x. not (p x)) (drop i s))) None → n ≡ position_or_len (λ x. not (p x)) (drop i s)
+      go true f = ap (λ o. unwrap_or o 0) f
+      go false f = clash (ap is_some f)
+
+  pub run_whole : {s : Text} {i : ℕ} → i ≤ length s → None ≡ position (λ x. not (p x)) (take (length s - i) (drop i s)) → RunEnd p s i (length s)
+  run_whole {s} {i} h e =
+      let k = go _ refl (rw (left s i) at e) in
+      let n : i + (length s - i) ≡ length s = omega arith in
+      subst (RunEnd p s i) n (run_ends (length s - i) h (omega (arith, k, prefix_len-le-length (λ x. not (not (p x))) (drop i s), length-drop i s)))
+    where
+      go : (b : Bool) → ltb (position_or_len (λ x. not (p x)) (drop i s)) (length (drop i s)) ≡ b → None ≡ cond b (Some (position_or_len (λ x. not (p x)) (drop i s))) None
+          → length (drop i s) ≤ position_or_len (λ x. not (p x)) (drop i s)
+      go true q f = clash (sym (ap is_some f))
+      go false q f = ltb-false _ _ q
 
 -- ---- a run that is known
 

@@ -2,30 +2,20 @@
 use mathlib.Core.Path.{◌≡◌, sym, ap, ◌∙◌}
 use mathlib.Core.List.{[], ◌∷◌, ◌++◌, append-nil, append_assoc}
 use Prim.Native.Nat.{ℕ, suc, ◌+◌, ◌-◌, ◌≤◌, ◌<◌}
-use native.Mathlib.Nat.{add_assoc, add-zero, zero-add, sub_self}
+use native.Mathlib.Nat.{add_assoc, add-zero, zero-add}
 use native.Mathlib.Numerals.{add-one}
 use native.Mathlib.Omega.{arith}
-use lib.ListN.{length, take, drop, get_or, set, replicate, length-append, length-take, length-drop, length-replicate, replicate-append-replicate, drop_of_length-le, take-append-drop}
-use lib.Seq.{drop-length, paste, paste-zero, paste-suc, take-length, take_at, drop_at, drop-drop, set_split, set_at, take-suc, length-take-le}
+use lib.ListN.{length, take, drop, set, replicate, length-append, length-take, length-drop, drop_of_length-le, take-append-drop}
+use lib.Seq.{drop-length, take_at, drop_at, drop-drop, set_split, set_at, take-suc, length-take-le}
+use borrow.Rule.Slice.PartMut.{put_mid}
 use Rattle.text.specs.Text.{Text, put, Wrote, zeroed}
 
--- ---- a copy that has come to index j of what is copied
+-- ---- a part that was written whole
 
-unfoldable pub copied : Text → ℕ → Text → ℕ → Text
-copied d at s j = paste d at s j
-
-pub copied_none : (d : Text) (at : ℕ) (s : Text) → d ≡ copied d at s 0
-unfolding copied
-copied_none d at s = paste-zero d at s
-
-pub copied_more : (d₀ : Text) (at : ℕ) (s : Text) (j : ℕ) {d : Text} → d ≡ copied d₀ at s j → at + j < length d₀ → j < length s
-    → set d (at + j) (get_or s j 0) ≡ copied d₀ at s (j + 1)
-unfolding copied
-copied_more d₀ at s j e h k = rw (add-one, e) (paste-suc d₀ at s j 0 h k)
-
-pub copied_all : (d : Text) (at : ℕ) (s : Text) {j : ℕ} {d' : Text} → d' ≡ copied d at s j → j ≡ length s → at + length s ≤ length d → Wrote d at s d' (at + j)
-unfolding copied put
-copied_all d at s {j} e h l = record { end = omega arith; high = omega arith; text = e ∙ rw (h, take-length) }
+-- s in the place of the k bytes from index at on
+pub wrote_part : (d : Text) (at : ℕ) (s : Text) {k r : ℕ} → k ≡ length s → r ≡ at + length s → r ≤ length d → Wrote d at s (put_mid at k d s) r
+unfolding put
+wrote_part d at s {k} {r} e f h = record { end = f; high = h; text = rw (e, drop-drop (length s) at d) (sym (append_assoc (take at d) s (drop (at + length s) d))) }
 
 -- ---- several writes
 
@@ -68,34 +58,13 @@ wrote_then {d} {d₁} {d₂} {s} {t} {at} {k} {r} p q =
       text = q.text ∙ rw p.text (put_put d at s k t p.end (omega (arith, q.end)));
     }
 
--- ---- bytes v from index at on, which have come to index i
+-- ---- zeros up to the end
 
-unfoldable pub filled : Text → ℕ → ℕ → ℕ → Text
-filled d at v i = put d at (replicate (i - at) v)
-
-pub filled_none : (d : Text) (at v : ℕ) → d ≡ filled d at v at
-unfolding filled
-filled_none d at v = rw (sub_self at) (sym (put_none d at))
-
-pub filled_more : (d₀ : Text) (at v i : ℕ) {d : Text} → d ≡ filled d₀ at v i → at ≤ i → i < length d₀ → set d i v ≡ filled d₀ at v (i + 1)
-unfolding filled
-filled_more d₀ at v i e l h =
-    let n : i + 1 - at ≡ i - at + 1 = omega arith in
-    let k : at + length (replicate (i - at) v) ≡ i = simp length-replicate (omega arith) in
-    rw (e, n, ← replicate-append-replicate (i - at) 1 v)
-    (put_byte _ i v (rw (put_length d₀ at (replicate (i - at) v) (omega arith)) h) ∙ put_put d₀ at _ i (v ∷ []) (sym k) (omega arith))
-
-pub filled_wrote : (d : Text) (at v n : ℕ) {d' : Text} {i : ℕ} → d' ≡ filled d at v i → i ≡ at + n → at + n ≤ length d → Wrote d at (replicate n v) d' i
-unfolding filled
-filled_wrote d at v n {d'} {i} e h l =
-    let k : i - at ≡ n = omega arith in
-    record { end = rw (length-replicate n v) h; high = omega arith; text = e ∙ rw k }
-
--- zeros up to the end
-pub wrote_zeros : {d d' : Text} {at r : ℕ} → at ≤ length d → Wrote d at (replicate (length d - at) 0) d' r → d' ≡ zeroed d at
-unfolding zeroed put
-wrote_zeros {d} {d'} {at} {r} h w =
-    w.text ∙ rw (drop_of_length-le d {i = at + length {A = ℕ} (replicate (length d - at) 0)} (simp length-replicate (omega arith)), append-nil)
+pub zeros_to_end : (d : Text) (at k : ℕ) → at ≤ length d → k ≡ length d - at → put_mid at k d (replicate k 0) ≡ zeroed d at
+unfolding zeroed
+zeros_to_end d at k h e =
+    let l : length d ≤ at + (length d - at) = omega arith in
+    rw (e, drop-drop (length d - at) at d, drop_of_length-le d {i = at + (length d - at)} l, append-nil)
 
 -- a byte in front of what was written
 pub put_before : (d : Text) (at v : ℕ) (t : Text) → at + suc (length t) ≤ length d → set (put d (at + 1) t) at v ≡ put d at (v ∷ t)

@@ -1,6 +1,6 @@
 -- What the contracts of private functions cite; no public contract rests on it. Assumes nothing: these are definitions.
-use Rattle.std.specs.Prelude.{Bool, ℕ, ◌+◌, ◌*◌, ◌^◌, ltb}
+use Rattle.std.specs.Prelude.{cond, ℕ, ◌^◌, ltb, Option, Some, None}
 
--- one more digit still fits in 64 bits
-unfoldable pub has_room : ℕ → ℕ → Bool
-has_room n d = ltb (n * 10 + d) (2 ^ 64)
+-- the number, if 64 bits hold it
+unfoldable pub in_64_bits : ℕ → Option ℕ
+in_64_bits n = cond (ltb n (2 ^ 64)) (Some n) None

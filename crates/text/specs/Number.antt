@@ -1,8 +1,6 @@
 -- Numbers as text, in decimal and in hexadecimal. Assumes nothing: these are definitions.
-use Rattle.std.specs.Prelude.{◌≡◌, true, false, cond, not, ◌&&◌, [], ◌∷◌, ◌++◌, ℕ, zero, suc, ◌+◌, ◌*◌, ◌-◌, ◌/◌, ◌%◌, ◌^◌, ◌≤◌, length, drop, ltb}
+use Rattle.std.specs.Prelude.{◌≡◌, true, false, cond, not, ◌&&◌, [], ◌∷◌, ◌++◌, ℕ, zero, suc, ◌+◌, ◌*◌, ◌-◌, ◌/◌, ◌%◌, ◌^◌, ◌≤◌, length, drop, ltb, Option, Some, None}
 use Rattle.text.specs.Text.{Text, is_digit, is_empty, run, rest}
-use Rattle.text.specs.declared.decimal.Number.{Number}
-use Rattle.text.specs.declared.decimal.Number.TheVariants.{At, Refused}
 
 -- "Decimal printing calls itself on the quotient": its digits, and behind them the last one. The first number bounds the calls; above n it has no effect
 unfoldable pub digits : ℕ → ℕ → Text
@@ -48,16 +46,16 @@ eight_bytes n = positional 256 (λ x. x) 8 n
 -- ---- what is read from an index on
 
 -- what an answer says: the number, and the text from the index behind it
-unfoldable pub as_taken : Text → Number → Taken
-as_taken s (At n r) = taken n (drop r s)
-as_taken s Refused = refused
+unfoldable pub as_taken : Text → Option (ℕ × ℕ) → Taken
+as_taken s (Some (n, r)) = taken n (drop r s)
+as_taken s None = refused
 
 -- the index behind a number lies in the text
-abbrev pub Inside : Text → ℕ → Number → Type 0
-Inside s i (At n r) = (i ≤ r) × (r ≤ length s)
-Inside s i Refused = Unit {0}
+abbrev pub Inside : Text → ℕ → Option (ℕ × ℕ) → Type 0
+Inside s i (Some (n, r)) = (i ≤ r) × (r ≤ length s)
+Inside s i None = Unit {0}
 
 -- a is what f takes from s at index i
-pub record TakenAt (f : Text → Taken) (s : Text) (i : ℕ) (a : Number) : Type 0 where
+pub record TakenAt (f : Text → Taken) (s : Text) (i : ℕ) (a : Option (ℕ × ℕ)) : Type 0 where
   pub is : as_taken s a ≡ f (drop i s)
   pub inside : Inside s i a

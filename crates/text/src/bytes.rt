@@ -1,5 +1,6 @@
 // Bytes: classes, words, runs, and copies and zeros in a buffer.
-ghost use Rattle.std.specs.Prelude.{◌≡◌, [], ◌∷◌, ◌+◌, ◌≤◌, ◌<◌, length, replicate};
+ghost use Rattle.std.specs.Prelude.{◌≡◌, ◌==◌, not, [], ◌∷◌, ℕ, ◌+◌, ◌≤◌, ◌<◌, length, replicate, zip, position};
+ghost use Rattle.std.specs.List.{list_all};
 ghost use Rattle.text.specs.Text.{is_in, lower_byte, same, is_word, RunEnd, RunTo, Wrote, zeroed};
 
 // Sets of bytes: digits, letters and digits, blanks and tabs, all but these, all but one byte.
@@ -17,13 +18,11 @@ pub fn is_in(class: Class, b: u8) -> bool
     ensures { result ≡ is_in class b }
 {
     match class {
-        Class::Digit => (48 <= b) & (b <= 57),
-        Class::Alphanumeric => ((48 <= b) & (b <= 57))
-            | ((65 <= b) & (b <= 90))
-            | ((97 <= b) & (b <= 122)),
-        Class::Blank => (b == 32) | (b == 9),
-        Class::NotBlank => !((b == 32) | (b == 9)),
-        Class::AllBut(x) => !(b == x),
+        Class::Digit => b.is_ascii_digit(),
+        Class::Alphanumeric => b.is_ascii_alphanumeric(),
+        Class::Blank => (b == b' ') | (b == b'\t'),
+        Class::NotBlank => !((b == b' ') | (b == b'\t')),
+        Class::AllBut(x) => b != x,
     }
 }
 
@@ -31,10 +30,14 @@ pub fn is_in(class: Class, b: u8) -> bool
 pub fn lower_byte(b: u8) -> u8
     ensures { result ≡ lower_byte b }
 {
-    if (65 <= b) & (b <= 90) {
-        return b + 32;
-    }
-    b
+    b.to_ascii_lowercase()
+}
+
+// The index of the first byte that is not of the class, if there is one.
+fn first_outside(s: &[u8], class: Class) -> Option<usize>
+    ensures { result ≡ position (λ b. not (is_in class b)) s.now }
+{
+    s.iter().position(|b| !is_in(class, *b))
 }
 
 // Where the run of bytes of the class, from index i on, ends.
@@ -42,14 +45,10 @@ pub fn run_end(s: &[u8], i: usize, class: Class) -> usize
     requires { i ≤ length s.now }
     ensures { RunEnd (is_in class) s.now i result }
 {
-    let mut j = i;
-    while j < s.len() {
-        if !is_in(class, s[j]) {
-            return j;
-        }
-        j += 1;
+    match first_outside(&s[i..], class) {
+        Some(n) => i + n,
+        None => s.len(),
     }
-    j
 }
 
 // Where the run of bytes of the class, from index i on, ends in the text up to index e.
@@ -64,34 +63,21 @@ pub fn run_to(s: &[u8], i: usize, e: usize, class: Class) -> usize
 pub fn same_bytes(s: &[u8], t: &[u8]) -> bool
     ensures { result ≡ same s.now t.now }
 {
-    if s.len() != t.len() {
-        return false;
-    }
-    let mut j = 0;
-    while j < s.len() {
-        if s[j] != t[j] {
-            return false;
-        }
-        j += 1;
-    }
-    true
+    s == t
+}
+
+// Whether each byte of s, in lower case, is the one of w at its place, as far as both have bytes.
+fn are_lower(s: &[u8], w: &[u8]) -> bool
+    ensures { result ≡ list_all (λ (p : ℕ × ℕ). lower_byte p.0 == p.1) (zip s.now w.now) }
+{
+    s.iter().zip(w).all(|(a, b)| lower_byte(*a) == *b)
 }
 
 // Whether s is the word w, which is in lower case, whatever the case of s.
 pub fn is_word(s: &[u8], w: &[u8]) -> bool
     ensures { result ≡ is_word s.now w.now }
 {
-    if s.len() != w.len() {
-        return false;
-    }
-    let mut j = 0;
-    while j < s.len() {
-        if lower_byte(s[j]) != w[j] {
-            return false;
-        }
-        j += 1;
-    }
-    true
+    (s.len() == w.len()) && are_lower(s, w)
 }
 
 // Copies src into dst from index at on, and returns the index behind it.
@@ -99,12 +85,9 @@ pub fn copy_at(dst: &mut [u8], at: usize, src: &[u8]) -> usize
     requires { at + length src.now ≤ length dst.old }
     ensures { Wrote dst.old at src.now dst.new result }
 {
-    let mut j = 0;
-    while j < src.len() {
-        dst[at + j] = src[j];
-        j += 1;
-    }
-    at + j
+    let end = at + src.len();
+    dst[at..end].copy_from_slice(src);
+    end
 }
 
 // Writes n times b to buf from index at on, and returns the index behind them.
@@ -113,12 +96,8 @@ pub fn fill_at(buf: &mut [u8], at: usize, n: usize, b: u8) -> usize
     ensures { Wrote buf.old at (replicate n b) buf.new result }
 {
     let end = at + n;
-    let mut i = at;
-    while i < end {
-        buf[i] = b;
-        i += 1;
-    }
-    i
+    buf[at..end].fill(b);
+    end
 }
 
 // Writes b to buf at index at, and returns the index behind it.
@@ -135,6 +114,5 @@ pub fn zero_from(buf: &mut [u8], at: usize)
     requires { at ≤ length buf.old }
     ensures { buf.new ≡ zeroed buf.old at }
 {
-    let n = buf.len() - at;
-    fill_at(buf, at, n, 0);
+    buf[at..].fill(0);
 }

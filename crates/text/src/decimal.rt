@@ -1,24 +1,17 @@
 // Decimal numbers: printing and reading.
-ghost use Rattle.std.specs.Prelude.{◌≡◌, ◌+◌, ◌≤◌, ◌<◌, length};
-ghost use Rattle.text.specs.Text.{Wrote};
-ghost use Rattle.text.specs.Number.{decimal, take_number, TakenAt};
-ghost use Rattle.text.specs.Inner.{has_room};
+ghost use Rattle.std.specs.Prelude.{◌≡◌, true, ◌+◌, ◌≤◌, ◌<◌, length};
+ghost use Rattle.text.specs.Text.{Wrote, is_digit, all};
+ghost use Rattle.text.specs.Number.{decimal, worth, take_number, TakenAt};
+ghost use Rattle.text.specs.Inner.{in_64_bits};
 
-use super::bytes::{Class, is_in};
-
-// A number that was read, with the index behind it.
-#[derive(Clone, Copy)]
-pub enum Number {
-    At(u64, usize),
-    Refused,
-}
+use super::bytes::{Class, run_end};
 
 // A digit as a byte.
-fn digit(n: u64) -> u8
+pub fn digit(n: u64) -> u8
     requires { n < 10 }
     ensures { result ≡ 48 + n }
 {
-    48 + n as u8
+    b'0' + n as u8
 }
 
 // Writes n to buf from index at on, and returns the index behind it.
@@ -39,47 +32,33 @@ pub fn decimal_at(buf: &mut [u8], at: usize, n: u64) -> usize
 pub fn decimal_len(n: u64) -> usize
     ensures { (result ≡ length (decimal n)) × (result ≤ 20) }
 {
-    let mut k = 1;
-    let mut m = n;
-    while 10 <= m {
-        m = m / 10;
-        k += 1;
+    match n.checked_ilog10() {
+        Some(k) => k as usize + 1,
+        None => 1,
     }
-    k
 }
 
-// Whether n * 10 + d is a u64.
-fn has_room(n: u64, d: u64) -> bool
-    requires { d < 10 }
-    ensures { result ≡ has_room n d }
+// What digits are worth, if 64 bits hold it.
+fn worth(digits: &[u8]) -> Option<u64>
+    requires { all is_digit digits.now ≡ true }
+    ensures { result ≡ in_64_bits (worth 0 digits.now) }
 {
-    n <= (18446744073709551615 - d) / 10
+    let mut n: u64 = 0;
+    for b in digits {
+        n = n.checked_mul(10)?.checked_add((*b - b'0') as u64)?;
+    }
+    Some(n)
 }
 
-// Reads the digits from index i on, at least one, as a u64.
-pub fn number_at(s: &[u8], i: usize) -> Number
+// Reads the digits from index i on, at least one, as a u64; gives the index behind them too.
+pub fn number_at(s: &[u8], i: usize) -> Option<(u64, usize)>
     requires { i ≤ length s.now }
     ensures { TakenAt take_number s.now i result }
 {
-    let mut n: u64 = 0;
-    let mut j = i;
-    while j < s.len() {
-        let b = s[j];
-        if !is_in(Class::Digit, b) {
-            if i == j {
-                return Number::Refused;
-            }
-            return Number::At(n, j);
-        }
-        let d = (b - 48) as u64;
-        if !has_room(n, d) {
-            return Number::Refused;
-        }
-        n = n * 10 + d;
-        j += 1;
+    let end = run_end(s, i, Class::Digit);
+    if end == i {
+        return None;
     }
-    if i == j {
-        return Number::Refused;
-    }
-    Number::At(n, j)
+    let n = worth(&s[i..end])?;
+    Some((n, end))
 }

@@ -1,71 +1,135 @@
 // The groups of cases, and how many cases of each came out right.
-use super::lines::field;
 use std::io;
 use std::io::Write;
-use text::bytes::same_bytes;
 
-// The groups' names in the order of their numbers; then 23 for a case of no group, and 24 for all cases.
-const NAMES: [u8; 205] =
-    *b"fnv\tpseudonym\tdecimal\thexadecimal\tpath\taction\tapply\tpolicy\tappend\tbuiltin\tpadded\ttimes\tdecode\tencode\tlower\tword\tleaves\trepeated\tentry-redact\tentry-print\tentry-append\tentry-builtin\tentry-payload\tunknown\tall";
-
-// Whether group k has this name.
-fn is_named(k: usize, name: &[u8]) -> bool {
-    let names = NAMES;
-    let span = field(&names, k);
-    let start = span.start;
-    let end = span.end;
-    same_bytes(&names[start..end], name)
+#[derive(Clone, Copy)]
+pub enum Group {
+    Fnv,
+    Pseudonym,
+    Decimal,
+    Hexadecimal,
+    Path,
+    Action,
+    Apply,
+    Policy,
+    Append,
+    Builtin,
+    Padded,
+    Times,
+    Decode,
+    Encode,
+    Lower,
+    Word,
+    Leaves,
+    Repeated,
+    EntryRedact,
+    EntryPrint,
+    EntryAppend,
+    EntryBuiltin,
+    EntryPayload,
 }
 
-// The number of the group that has this name.
-pub fn group_of(name: &[u8]) -> usize {
-    let mut k = 0;
-    while k < 23 {
-        if is_named(k, name) {
-            return k;
+// How many groups there are.
+const GROUPS: usize = 23;
+
+// The groups, each with the name that its lines begin with.
+const NAMES: [(&str, Group); GROUPS] = [
+    ("fnv", Group::Fnv),
+    ("pseudonym", Group::Pseudonym),
+    ("decimal", Group::Decimal),
+    ("hexadecimal", Group::Hexadecimal),
+    ("path", Group::Path),
+    ("action", Group::Action),
+    ("apply", Group::Apply),
+    ("policy", Group::Policy),
+    ("append", Group::Append),
+    ("builtin", Group::Builtin),
+    ("padded", Group::Padded),
+    ("times", Group::Times),
+    ("decode", Group::Decode),
+    ("encode", Group::Encode),
+    ("lower", Group::Lower),
+    ("word", Group::Word),
+    ("leaves", Group::Leaves),
+    ("repeated", Group::Repeated),
+    ("entry-redact", Group::EntryRedact),
+    ("entry-print", Group::EntryPrint),
+    ("entry-append", Group::EntryAppend),
+    ("entry-builtin", Group::EntryBuiltin),
+    ("entry-payload", Group::EntryPayload),
+];
+
+// How many cases came out right, of how many.
+#[derive(Clone, Copy)]
+struct Score {
+    right: u64,
+    all: u64,
+}
+
+const NONE: Score = Score { right: 0, all: 0 };
+
+impl Score {
+    fn count(&mut self, right: bool) {
+        self.right = self.right.saturating_add(u64::from(right));
+        self.all = self.all.saturating_add(1);
+    }
+
+    // Writes a line for the cases of this name, if there are any.
+    fn print<W: Write>(&self, out: &mut W, name: &str) -> io::Result<()> {
+        let Score { right, all } = *self;
+        if all == 0 {
+            return Ok(());
         }
-        k += 1;
+        writeln!(out, "{name} {right} of {all}")
     }
-    k
 }
 
-fn add_one(n: u64) -> u64 {
-    if n < 1000000 { n + 1 } else { n }
+// The scores of the groups in their order, of the cases of no group, and of all cases.
+#[derive(Clone, Copy)]
+pub struct Tally {
+    groups: [Score; GROUPS],
+    unknown: Score,
+    all: Score,
 }
 
-// Counts a case in the group's pair: how many came out right, and how many there were.
-pub fn count(tally: &mut [u64; 50], group: usize, right: bool) {
-    if 24 < group {
-        return;
+// A tally of no cases.
+pub fn no_cases() -> Tally {
+    Tally {
+        groups: [NONE; GROUPS],
+        unknown: NONE,
+        all: NONE,
     }
-    if right {
-        tally[group * 2] = add_one(tally[group * 2]);
-    }
-    tally[group * 2 + 1] = add_one(tally[group * 2 + 1]);
 }
 
-// Writes a group's name.
-fn print_name<W: Write>(out: &mut W, k: usize) -> io::Result<()> {
+// Where the group of this name stands, if there is one.
+pub fn place_of(name: &[u8]) -> Option<usize> {
     let names = NAMES;
-    let span = field(&names, k);
-    let start = span.start;
-    let end = span.end;
-    out.write_all(&names[start..end])
+    names.iter().position(|(n, _)| n.as_bytes() == name)
 }
 
-// Writes a group's line, if it has cases.
-fn print_group<W: Write>(out: &mut W, k: usize, right: u64, all: u64) -> io::Result<()> {
-    if all == 0 {
-        return Ok(());
-    }
-    print_name(out, k)?;
-    writeln!(out, " {right} of {all}")
+// The group at a place.
+pub fn group_at(place: usize) -> Option<Group> {
+    let names = NAMES;
+    names.get(place).map(|(_, group)| *group)
 }
 
-// Writes a line for each group that has cases, and one for all.
-pub fn print<W: Write>(out: &mut W, tally: &[u64; 50]) -> io::Result<()> {
-    for k in 0..25 {
-        print_group(out, k, tally[k * 2], tally[k * 2 + 1])?;
+impl Tally {
+    // Counts a case of the group at a place, or of no group.
+    pub fn count(&mut self, place: Option<usize>, right: bool) {
+        match place {
+            Some(k) if k < GROUPS => self.groups[k].count(right),
+            _ => self.unknown.count(right),
+        }
+        self.all.count(right);
     }
-    Ok(())
+
+    // Writes a line for each group that has cases, and one for all.
+    pub fn print<W: Write>(&self, out: &mut W) -> io::Result<()> {
+        let names = NAMES;
+        for ((name, _), score) in names.iter().zip(&self.groups) {
+            score.print(out, *name)?;
+        }
+        self.unknown.print(out, "unknown")?;
+        self.all.print(out, "all")
+    }
 }

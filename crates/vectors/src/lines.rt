@@ -1,33 +1,16 @@
 // Lines of fields parted by tabs.
-ghost use Rattle.std.specs.Prelude.{◌+◌, ◌≤◌, ◌<◌, length};
-ghost use Rattle.vectors.specs.Span.{Within};
+ghost use Rattle.std.specs.Prelude.{◌<◌};
 
-use super::parts::Page;
-use text::bytes::{Class, run_end};
-
-// A part of a text, from its start up to its end.
-#[derive(Clone, Copy)]
-pub struct Span {
-    pub start: usize,
-    pub end: usize,
-}
+use super::parts::{Page, front};
 
 // Field k, from 0, of a line; an empty one if it has fewer.
-pub fn field(line: &[u8], k: usize) -> Span
-    ensures { Within line.now result }
-{
-    let mut start = 0;
-    let mut left = k;
-    while 0 < left {
-        let end = run_end(line, start, Class::AllBut(b'\t'));
-        if end == line.len() {
-            return Span { start: end, end };
-        }
-        start = end + 1;
-        left -= 1;
-    }
-    let end = run_end(line, start, Class::AllBut(b'\t'));
-    Span { start, end }
+pub fn field(line: &[u8], k: usize) -> &[u8] {
+    line.split(|b| *b == b'\t').nth(k).unwrap_or(&[])
+}
+
+// How many fields a line has.
+pub fn field_count(line: &[u8]) -> usize {
+    line.split(|b| *b == b'\t').count()
 }
 
 // The byte that `\` and b stand for.
@@ -55,62 +38,31 @@ fn digit(b: u8) -> u8
     }
 }
 
-// Byte k of s, 0 if it has fewer.
-pub fn byte_of(s: &[u8], k: usize) -> u8 {
-    if k < s.len() { s[k] } else { 0 }
-}
-
-// A byte that was read, with the number of bytes that it is written with.
-#[derive(Clone, Copy)]
-struct Byte {
-    value: u8,
-    width: usize,
-}
-
-// The byte that s begins with: as itself, as `\x` and two digits, or as `\` and one byte.
-fn first(s: &[u8]) -> Byte
-    ensures { 0 < result.width }
-{
-    let b = byte_of(s, 0);
-    if b != b'\\' {
-        return Byte { value: b, width: 1 };
-    }
-    let c = byte_of(s, 1);
-    if c != b'x' {
-        return Byte {
-            value: unescaped(c),
-            width: 2,
-        };
-    }
-    Byte {
-        value: digit(byte_of(s, 2)) * 16 + digit(byte_of(s, 3)),
-        width: 4,
+// The byte that s begins with, as itself, as `\x` and two digits, or as `\` and one byte; and what stands behind it.
+fn first(s: &[u8]) -> Option<(u8, &[u8])> {
+    match s {
+        [b'\\', b'x', high, low, rest @ ..] => Some((digit(*high) * 16 + digit(*low), rest)),
+        [b'\\', b'x', ..] | [b'\\'] | [] => None,
+        [b'\\', b, rest @ ..] => Some((unescaped(*b), rest)),
+        [b, rest @ ..] => Some((*b, rest)),
     }
 }
 
 // Writes s to the front of out with its escapes read, as far as it fits, and returns the length.
 fn unescape(s: &[u8], out: &mut Page) -> usize {
-    let mut i = 0;
-    let mut n = 0;
-    while i < s.len() {
-        if n == 131072 {
+    let mut rest = s;
+    for n in 0..out.len() {
+        let Some((byte, behind)) = first(rest) else {
             return n;
-        }
-        let byte = first(&s[i..]);
-        if s.len() - i < byte.width {
-            return n;
-        }
-        out[n] = byte.value;
-        n += 1;
-        i += byte.width;
+        };
+        out[n] = byte;
+        rest = behind;
     }
-    n
+    out.len()
 }
 
-// Puts field k of the line, with its escapes read, at the front of out, and returns its length.
-pub fn input(line: &[u8], k: usize, out: &mut Page) -> usize {
-    let span = field(line, k);
-    let start = span.start;
-    let end = span.end;
-    unescape(&line[start..end], out)
+// Puts field k of the line, with its escapes read, at the front of out, and returns it.
+pub fn input<'a>(line: &[u8], k: usize, out: &'a mut Page) -> &'a [u8] {
+    let n = unescape(field(line, k), out);
+    front(out, n)
 }

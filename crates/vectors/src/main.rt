@@ -12,41 +12,30 @@ mod policies;
 mod sample;
 mod values;
 
+use groups::{Tally, no_cases};
 use reading::read_full;
 use std::fs::File;
 use std::io;
 use std::rt::Files;
 
-// Room for a file.
-type Progress = [u8; 262144];
-
-// Puts the file's bytes into buf, and returns their number.
-fn load<R: Files>(rt: &R, name: &str, buf: &mut Progress) -> usize {
-    match File::open(rt, name) {
-        Ok(mut file) => read_full(&mut file, buf),
-        Err(_) => 0,
-    }
-}
-
-// The first n bytes of buf.
-fn front<'a>(buf: &'a Progress, n: usize) -> &'a [u8] {
-    let all = &buf[..];
-    if all.len() < n {
-        return all;
-    }
-    &all[0..n]
+// Puts the file's bytes into buf, and returns them; none if it is missing.
+fn load<'a, R: Files>(rt: &R, name: &str, buf: &'a mut [u8]) -> &'a [u8] {
+    let Ok(mut file) = File::open(rt, name) else {
+        return &[];
+    };
+    let n = read_full(&mut file, buf);
+    &buf[..n]
 }
 
 // Runs the cases of a file.
-fn run_file<R: Files>(rt: &R, name: &str, tally: &mut [u64; 50]) {
+fn run_file<R: Files>(rt: &R, name: &str, tally: &mut Tally) {
     let mut buf = [0u8; 262144];
-    let n = load(rt, name, &mut buf);
-    cases::run(front(&buf, n), tally);
+    cases::run(load(rt, name, &mut buf), tally);
 }
 
 fn main(rt: HostRuntime) -> io::Result<()> {
-    let mut tally = [0u64; 50];
+    let mut tally = no_cases();
     run_file(&rt, "vectors.txt", &mut tally);
     run_file(&rt, "sample.txt", &mut tally);
-    groups::print(&mut io::writer(&rt), &tally)
+    tally.print(&mut io::writer(&rt))
 }

@@ -1,22 +1,15 @@
 // The cases of messages: read, and their leaves listed.
+use super::groups::Group;
 use super::parts::{
-    Page, front, number, put, put_byte, put_number, put_refused, put_repeated, sum,
+    PAGE, Page, front, number, put, put_byte, put_number, put_refused, put_repeated, sum,
 };
-use er7_message::message::{Layout, ParsedMessage, parse};
+use er7_message::message::{Layout, parse};
 use refusal::limits::LEAVES_MAX;
 
 // Cell k of row i of a table, 0 if it has fewer.
 fn cell(table: &[usize], i: usize, k: usize) -> usize {
-    if LEAVES_MAX < i {
-        return 0;
-    }
-    if 7 < k {
-        return 0;
-    }
-    if i * 8 + k < table.len() {
-        return table[i * 8 + k];
-    }
-    0
+    let at = i.saturating_mul(8).saturating_add(k);
+    table.get(at).copied().unwrap_or(0)
 }
 
 // The byte in a cell.
@@ -50,13 +43,10 @@ fn put_place(cells: &[usize], j: usize, out: &mut Page, at: usize) -> usize {
 
 // Writes n bytes of text from index start on, if it has them.
 fn put_part(text: &[u8], start: usize, n: usize, out: &mut Page, at: usize) -> usize {
-    if text.len() < start {
-        return at;
+    if start <= text.len() && n <= text.len() - start {
+        return put(&text[start..start + n], out, at);
     }
-    if text.len() - start < n {
-        return at;
-    }
-    put(&text[start..start + n], out, at)
+    at
 }
 
 // Writes leaf j of segment i: its label, its place and its text.
@@ -87,11 +77,9 @@ fn put_leaves(
     out: &mut Page,
     at: usize,
 ) -> usize {
-    let mut j = first;
     let mut k = at;
-    while j < end {
+    for j in first..end {
         k = show_leaf(text, segs, i, cells, j, out, k);
-        j += 1;
     }
     k
 }
@@ -117,17 +105,15 @@ fn show_segment(
 // Writes the first n segments.
 fn put_segments(text: &[u8], segs: &[usize], n: usize, cells: &[usize], out: &mut Page) -> usize {
     let mut k = 0;
-    let mut i = 0;
-    while i < n {
+    for i in 0..n {
         k = show_segment(text, segs, i, cell(segs, i + 1, 1), cells, out, k);
-        i += 1;
     }
     k
 }
 
-// Lists a message that was read, with `CR` if a CR ends its last segment; the listing's length and hash in group 17.
+// Lists a message that was read, with `CR` if a CR ends its last segment; the listing's length and hash in the group of repeated texts.
 fn put_message(
-    group: usize,
+    group: Group,
     text: &[u8],
     segs: &[usize; 2056],
     layout: Layout,
@@ -141,29 +127,33 @@ fn put_message(
     } else {
         k
     };
-    if group == 17 { sum(n, got) } else { n }
+    if matches!(group, Group::Repeated) {
+        sum(n, got)
+    } else {
+        n
+    }
 }
 
 // Reads a message and lists it, or writes the refusal.
-fn list(group: usize, text: &[u8], got: &mut Page) -> usize {
+fn list(group: Group, text: &[u8], got: &mut Page) -> usize {
     let mut segs = [0usize; 2056];
     let mut cells = [0usize; LEAVES_MAX * 8];
     match parse(text, &mut segs, &mut cells) {
-        ParsedMessage::Read(layout) => put_message(group, text, &segs, layout, &cells, got),
-        ParsedMessage::Refused(why) => put_refused(why, got),
+        Ok(layout) => put_message(group, text, &segs, layout, &cells, got),
+        Err(why) => put_refused(why, got),
     }
 }
 
 // What comes out of a case of a group of messages: of a, c times b, and d.
 pub fn message_answer(
-    group: usize,
+    group: Group,
     a: &[u8],
     b: &[u8],
     c: &[u8],
     d: &[u8],
     got: &mut Page,
 ) -> usize {
-    let mut text = [0u8; 131072];
+    let mut text = [0u8; PAGE];
     let n = put_repeated(a, b, number(c), d, &mut text);
     list(group, front(&text, n), got)
 }

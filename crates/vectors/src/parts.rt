@@ -1,59 +1,42 @@
 // Parts of answers: texts and numbers, written to a page as far as they fit.
-ghost use Rattle.std.specs.Prelude.{◌≤◌};
-
 use pseudonym::{OFFSET, fold};
 use refusal::Refusal;
 use text::bytes::{byte_at, copy_at};
-use text::decimal::{Number, decimal_at, decimal_len, number_at};
+use text::decimal::{decimal_at, decimal_len, number_at};
 use text::positional::hexadecimal_at;
 
 // Room for a text.
-pub type Page = [u8; 131072];
+pub const PAGE: usize = 131072;
+
+pub type Page = [u8; PAGE];
 
 // The number at the front of a, 0 if there is none.
 pub fn number(a: &[u8]) -> u64 {
-    match number_at(a, 0) {
-        Number::At(n, _) => n,
-        Number::Refused => 0,
-    }
+    number_at(a, 0).map_or(0, |(n, _)| n)
 }
 
-// The length n, or that of a page if n is more.
-fn on_page(n: usize) -> usize
-    ensures { result ≤ 131072 }
-{
-    if n < 131072 { n } else { 131072 }
-}
-
-// The first n bytes of the page.
-pub fn front<'a>(page: &'a Page, n: usize) -> &'a [u8] {
-    let all = &page[..];
-    let end = on_page(n);
-    &all[0..end]
+// The first n bytes of the page, all of it if it has fewer.
+pub fn front(page: &Page, n: usize) -> &[u8] {
+    &page[..n.min(PAGE)]
 }
 
 // The first n bytes of all, to be written; all of it if it has fewer.
-pub fn part<'a>(all: &'a mut [u8], n: usize) -> &'a mut [u8] {
-    if all.len() < n {
-        return all;
-    }
-    &mut all[0..n]
+pub fn part(all: &mut [u8], n: usize) -> &mut [u8] {
+    let end = n.min(all.len());
+    &mut all[..end]
 }
 
 // Writes a to out from index at on, and returns the index behind it.
 pub fn put(a: &[u8], out: &mut [u8], at: usize) -> usize {
-    if out.len() < at {
-        return at;
+    if at <= out.len() && a.len() <= out.len() - at {
+        return copy_at(out, at, a);
     }
-    if out.len() - at < a.len() {
-        return at;
-    }
-    copy_at(out, at, a)
+    at
 }
 
 // Writes the byte b, and returns the index behind it.
 pub fn put_byte(b: u8, out: &mut Page, at: usize) -> usize {
-    if at < 131072 {
+    if at < PAGE {
         return byte_at(out, at, b);
     }
     at
@@ -61,22 +44,17 @@ pub fn put_byte(b: u8, out: &mut Page, at: usize) -> usize {
 
 // Writes the number n, and returns the index behind it.
 pub fn put_number(n: u64, out: &mut Page, at: usize) -> usize {
-    if 131072 < at {
-        return at;
+    if at <= PAGE && decimal_len(n) <= PAGE - at {
+        return decimal_at(out, at, n);
     }
-    if 131072 - at < decimal_len(n) {
-        return at;
-    }
-    decimal_at(out, at, n)
+    at
 }
 
 // Writes n times a, and returns the index behind it.
 fn put_times(a: &[u8], n: u64, out: &mut Page, at: usize) -> usize {
     let mut k = at;
-    let mut left = n;
-    while 0 < left {
+    for _ in 0..n {
         k = put(a, out, k);
-        left -= 1;
     }
     k
 }
@@ -98,10 +76,10 @@ pub fn sum(n: usize, out: &mut Page) -> usize {
 
 // Writes a hash, and returns the index behind it.
 pub fn put_hash(hash: u64, out: &mut Page, at: usize) -> usize {
-    if 131056 < at {
-        return at;
+    if at <= PAGE - 16 {
+        return hexadecimal_at(out, at, hash);
     }
-    hexadecimal_at(out, at, hash)
+    at
 }
 
 // Writes a refusal's number to the front of out, and returns the index behind it.

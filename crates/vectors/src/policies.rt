@@ -1,44 +1,43 @@
 // The cases of policies: read, merged or built in, and printed.
-use super::parts::{Page, front, number, put, put_number, put_refused, put_repeated, sum};
+use super::groups::Group;
+use super::parts::{PAGE, Page, front, number, put, put_number, put_refused, put_repeated, sum};
 use policy_print::builtin::builtin;
-use policy_print::print::{Printed, append, print_text};
-use refusal::Refusal;
+use policy_print::print::{append, print_text};
+use refusal::Refused;
 
 // Reads and prints the policy of a, n times b, and c.
-fn print_repeated(a: &[u8], b: &[u8], n: u64, c: &[u8], got: &mut Page) -> Printed {
-    let mut text = [0u8; 131072];
+fn print_repeated(a: &[u8], b: &[u8], n: u64, c: &[u8], got: &mut Page) -> Result<usize, Refused> {
+    let mut text = [0u8; PAGE];
     let len = put_repeated(a, b, n, c, &mut text);
     print_text(front(&text, len), got)
 }
 
-// How many bytes a lacks of n.
-fn missing(a: &[u8], n: u64) -> u64 {
-    let len = a.len() as u64;
-    if len < n { n - len } else { 0 }
-}
-
 // Prints the group's policy: a, a and b merged, the built-in one whose number is a, a with LF behind it up to b bytes, or b times a and c.
-fn printed(group: usize, a: &[u8], b: &[u8], c: &[u8], got: &mut Page) -> Printed {
+fn printed(group: Group, a: &[u8], b: &[u8], c: &[u8], got: &mut Page) -> Result<usize, Refused> {
     match group {
-        7 => print_text(a, got),
-        8 => append(a, b, got),
-        9 => builtin(number(a), got),
-        10 => print_repeated(a, b"\n", missing(a, number(b)), b"", got),
+        Group::Policy => print_text(a, got),
+        Group::Append => append(a, b, got),
+        Group::Builtin => builtin(number(a), got),
+        Group::Padded => {
+            let missing = number(b).saturating_sub(a.len() as u64);
+            print_repeated(a, b"\n", missing, b"", got)
+        }
         _ => print_repeated(b"", a, number(b), c, got),
     }
 }
 
 // Writes a refusal's number and line.
-fn refused(why: Refusal, line: usize, got: &mut Page) -> usize {
-    let i = put_refused(why, got);
+fn refused(why: Refused, got: &mut Page) -> usize {
+    let i = put_refused(why.refusal, got);
     let j = put(b" line ", got, i);
-    put_number(line as u64, got, j)
+    put_number(why.line as u64, got, j)
 }
 
 // What comes out of a case of a group of policies; of one that repeats a text, the length and the hash.
-pub fn policy_answer(group: usize, a: &[u8], b: &[u8], c: &[u8], got: &mut Page) -> usize {
+pub fn policy_answer(group: Group, a: &[u8], b: &[u8], c: &[u8], got: &mut Page) -> usize {
     match printed(group, a, b, c, got) {
-        Printed::Written(n) => { if group == 11 { sum(n, got) } else { n } }
-        Printed::Refused(why, line) => refused(why, line, got),
+        Ok(n) if matches!(group, Group::Times) => sum(n, got),
+        Ok(n) => n,
+        Err(why) => refused(why, got),
     }
 }

@@ -1,9 +1,14 @@
 // The cases of values: escapes read and written, lower case, words.
-use super::lines::byte_of;
-use super::parts::{Page, put};
+use super::groups::Group;
+use super::parts::{PAGE, Page, put};
 use er7::separators::Separators;
 use er7_value::escape::{decode, encode, encoded_len};
 use er7_value::word::{is_whole_word, lower_value};
+
+// Byte k of s, 0 if it has fewer.
+fn byte_of(s: &[u8], k: usize) -> u8 {
+    s.get(k).copied().unwrap_or(0)
+}
 
 // The delimiters that a lists, in the order of a header.
 fn separators(a: &[u8]) -> Separators {
@@ -29,7 +34,7 @@ fn encode_of(b: &[u8], s: Separators, got: &mut Page) -> usize {
     if 8192 < b.len() {
         return 0;
     }
-    if 131072 < encoded_len(b, s) {
+    if PAGE < encoded_len(b, s) {
         return 0;
     }
     encode(b, s, got, 0)
@@ -37,14 +42,14 @@ fn encode_of(b: &[u8], s: Separators, got: &mut Page) -> usize {
 
 // The text b with its escapes read, the value b with its delimiters escaped, the value of the text b in lower case, or whether a is a
 // word of b.
-pub fn value_answer(group: usize, a: &[u8], b: &[u8], got: &mut Page) -> usize {
+pub fn value_answer(group: Group, a: &[u8], b: &[u8], got: &mut Page) -> usize {
     if 8192 < b.len() {
         return 0;
     }
     match group {
-        12 => decode(b, separators(a), got, 0),
-        13 => encode_of(b, separators(a), got),
-        14 => lower_value(b, separators(a), got, 0),
+        Group::Decode => decode(b, separators(a), got, 0),
+        Group::Encode => encode_of(b, separators(a), got),
+        Group::Lower => lower_value(b, separators(a), got, 0),
         _ => word_of(a, b, got),
     }
 }

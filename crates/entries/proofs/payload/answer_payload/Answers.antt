@@ -1,17 +1,24 @@
-use mathlib.Core.Path.{sym, ap, ◌∙◌}
-use Rattle.run_model.specs.Entries.{outcome}
-use Rattle.entries.proofs.Outcomes.{same_lent}
-use Rattle.entries.proofs.Payloads.{front_wrote, answer_pass, answer_refuse, answer_apply, apply_held, apply_short}
+use Rattle.std.proofs.Common.{sym, ◌∙◌, arith}
+use Rattle.policy_print.proofs.Whole.{read_as, refused_as}
+use Rattle.refusal.specs.Refusal.{without_line}
+use Rattle.policy.specs.Policy.{as_policy}
+use Rattle.entries.proofs.Rooms.{unrecognised_short}
+use Rattle.entries.proofs.Outcomes.{refuses_policy, policy_read}
+use Rattle.entries.proofs.Payloads.{hands_on, fault, no_fault, same_answer}
 use Rattle.entries.proofs.payload.answer_payload.Goals as goal
 
-pub put_applied-n-requires : goal.put_applied-n-requires
-put_applied-n-requires c = (apply_held _ _ c.in-Apply.is c.requires.0, apply_short _ _ _ c.in-Apply.is c.requires.1, c.requires.2, c.requires.3)
+pub returns-in_err-held : goal.returns-in_err-held
+returns-in_err-held c = hands_on _ _ c.from_residual.ensures.1 (sym (refuses_policy _ _ (refused_as c.in_err-held.ensures)))
 
-pub returns-in-Pass : goal.returns-in-Pass
-returns-in-Pass c = c.finish.ensures _ (front_wrote c.copy_at-n.ensures) ∙ same_lent _ _ c.copy_at-n.auto.dst ∙ ap (outcome _) (sym (answer_pass _ _ _ _ c.in-Pass.is))
+pub returns-in_err-judge : goal.returns-in_err-judge
+unfolding as_policy without_line
+returns-in_err-judge c =
+    hands_on _ _ c.from_residual-in_err-judge.ensures.1 (sym (policy_read _ _ _ (read_as c.in_ok-held.ensures)) ∙ fault _ _ _ c.in_err-judge.ensures.fault)
 
-pub returns-in-Refuse : goal.returns-in-Refuse
-returns-in-Refuse c = c.refuse.ensures ∙ ap (outcome _) (sym (answer_refuse _ _ _ _ c.in-Refuse.is))
+pub put_payload-requires : goal.put_payload-requires
+put_payload-requires c =
+    (c.in_ok-held.ensures.held.unrecognised, unrecognised_short _ _ c.in_ok-held.held (read_as c.in_ok-held.ensures), omega (arith, c.in_ok-judge.ensures.short), c.requires)
 
-pub returns-in-Apply : goal.returns-in-Apply
-returns-in-Apply c = c.finish-in-Apply.ensures _ (front_wrote c.put_applied-n.ensures) ∙ same_lent _ _ c.put_applied-n.auto.output ∙ ap (outcome _) (sym (answer_apply _ _ _ _ c.in-Apply.is))
+pub returns : goal.returns
+unfolding as_policy
+returns c = same_answer (sym (policy_read _ _ _ (read_as c.in_ok-held.ensures)) ∙ no_fault _ _ c.in_ok-judge.ensures.fault) c.put_payload.ensures

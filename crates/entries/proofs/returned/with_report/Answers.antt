@@ -1,4 +1,4 @@
-use mathlib.Core.Path.{refl}
+use Rattle.std.proofs.Common.{refl}
 use Rattle.entries.specs.Inner.{with_report}
 use Rattle.entries.proofs.returned.with_report.Goals as goal
 

@@ -1,15 +1,11 @@
-use Rattle.text.proofs.Decimals.{known, known_end}
-use Rattle.er7.proofs.Paths.{then_taken, then_refused}
 use Rattle.er7.specs.Path.{read_component}
+use Rattle.er7.proofs.Paths.{then_taken, then_refused}
 use Rattle.er7.proofs.path.read_component.Goals as goal
 
-pub read_subcomponent-requires : goal.read_subcomponent-requires
-read_subcomponent-requires c = known_end c.take_step.ensures c.in-At.is
-
-pub returns-in-At : goal.returns-in-At
+pub returns-in_err-component : goal.returns-in_err-component
 unfolding read_component
-returns-in-At c = then_taken _ (known c.take_step.ensures c.in-At.is) c.read_subcomponent.ensures
+returns-in_err-component c = rw c.from_residual.ensures (then_refused _ c.in_err-component.ensures)
 
-pub returns-in-Refused : goal.returns-in-Refused
+pub returns : goal.returns
 unfolding read_component
-returns-in-Refused c = then_refused _ (known c.take_step.ensures c.in-Refused.is)
+returns c = then_taken _ c.in_ok-component.ensures c.read_subcomponent.ensures

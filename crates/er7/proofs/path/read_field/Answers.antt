@@ -1,15 +1,11 @@
-use Rattle.text.proofs.Decimals.{known, known_end}
-use Rattle.er7.proofs.Paths.{then_taken, then_refused}
 use Rattle.er7.specs.Path.{read_field}
+use Rattle.er7.proofs.Paths.{then_taken, then_refused}
 use Rattle.er7.proofs.path.read_field.Goals as goal
 
-pub read_repetition-requires : goal.read_repetition-requires
-read_repetition-requires c = known_end c.take_index.ensures c.in-At.is
-
-pub returns-in-At : goal.returns-in-At
+pub returns-in_err-field : goal.returns-in_err-field
 unfolding read_field
-returns-in-At c = then_taken _ (known c.take_index.ensures c.in-At.is) c.read_repetition.ensures
+returns-in_err-field c = rw c.from_residual.ensures (then_refused _ c.in_err-field.ensures)
 
-pub returns-in-Refused : goal.returns-in-Refused
+pub returns : goal.returns
 unfolding read_field
-returns-in-Refused c = then_refused _ (known c.take_index.ensures c.in-Refused.is)
+returns c = then_taken _ c.in_ok-field.ensures c.read_repetition.ensures

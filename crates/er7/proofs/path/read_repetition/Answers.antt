@@ -1,15 +1,11 @@
-use Rattle.text.proofs.Decimals.{known, known_end}
-use Rattle.er7.proofs.Paths.{then_taken, then_refused}
 use Rattle.er7.specs.Path.{read_repetition}
+use Rattle.er7.proofs.Paths.{then_taken, then_refused}
 use Rattle.er7.proofs.path.read_repetition.Goals as goal
 
-pub read_component-requires : goal.read_component-requires
-read_component-requires c = known_end c.take_occurrence.ensures c.in-At.is
-
-pub returns-in-At : goal.returns-in-At
+pub returns-in_err-repetition : goal.returns-in_err-repetition
 unfolding read_repetition
-returns-in-At c = then_taken _ (known c.take_occurrence.ensures c.in-At.is) c.read_component.ensures
+returns-in_err-repetition c = rw c.from_residual.ensures (then_refused _ c.in_err-repetition.ensures)
 
-pub returns-in-Refused : goal.returns-in-Refused
+pub returns : goal.returns
 unfolding read_repetition
-returns-in-Refused c = then_refused _ (known c.take_occurrence.ensures c.in-Refused.is)
+returns c = then_taken _ c.in_ok-repetition.ensures c.read_component.ensures

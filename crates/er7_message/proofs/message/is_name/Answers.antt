@@ -1,5 +1,7 @@
+use Rattle.std.proofs.Common.{arith}
+use Rattle.std.proofs.lemmas.Grind.{common_steps}
 use Rattle.er7_message.proofs.Names.{name_is}
 use Rattle.er7_message.proofs.message.is_name.Goals as goal
 
 pub returns : goal.returns
-returns c = name_is _ c.requires c.is_name_byte.ensures c.is_name_byte-2.ensures c.is_name_byte-3.ensures c.is_header_name-header.ensures
+returns c = grind (arith, common_steps, name_is)

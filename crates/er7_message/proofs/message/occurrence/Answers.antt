@@ -1,6 +1,4 @@
-use borrow.Author.Rules.{rules}
-use Prim.Native.Nat.{◌-◌}
-use native.Mathlib.Omega.{arith}
+use Rattle.std.proofs.Common.{rules, arith, ◌-◌}
 use Rattle.er7_table.specs.Table.{cell}
 use Rattle.er7_message.proofs.Names.{looking_start, looking_more, looking_found, looking_none, number_most}
 use Rattle.er7_message.proofs.message.occurrence.Goals as goal

@@ -1,7 +1,5 @@
-use borrow.Author.Rules.{rules}
-use native.Mathlib.Omega.{arith}
+use Rattle.std.proofs.Common.{rules, arith, length-take}
 use Rattle.er7_message.proofs.Segments.{next_at, field_within, within_behind, behind_none, behind_some}
-use lib.ListN.{length-take}
 use Rattle.er7_message.proofs.Reading.{room_front}
 use Rattle.er7_message.proofs.message.read_behind.Goals as goal
 
@@ -15,4 +13,4 @@ pub read_leaves-requires : goal.read_leaves-requires
 read_leaves-requires c = (search rules, search rules, omega arith, room_front c.requires.6 (simp length-take (omega arith)), within_behind _ _ _ _ (next_at _ _ _ c.next-p.ensures c.at_field.ensures) (omega arith) (omega arith))
 
 pub returns : goal.returns
-returns c = behind_some c.args.s c.args.text.now c.args.from c.args.end c.args.field c.args.n _ (omega arith) (omega arith) (next_at _ _ _ c.next-p.ensures c.at_field.ensures) c.read_leaves.ensures
+returns c = behind_some c.args.s c.args.text.now c.args.from c.args.end c.args.field c.args.n _ (omega arith) (omega arith) (next_at _ _ _ c.next-p.ensures c.at_field.ensures) _ c.read_leaves.ensures

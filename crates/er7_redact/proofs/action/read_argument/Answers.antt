@@ -1,7 +1,7 @@
-use mathlib.Core.Path.{refl, sym}
-use Rattle.er7_redact.specs.declared.action.Action.TheVariants as Held
-use Rattle.er7_redact.specs.Action.{keep, clear, null, pseudonym, first, last, held_as, held_action, refusal_of, read_argument}
-use Rattle.er7_redact.proofs.Actions.{by_verb, by_bare, by_count, by_days, replace_held}
+use Rattle.std.proofs.Common.{rules, refl, sym, ap, ◌∙◌, ◌≡◌, Err, to_z, of_z, w64}
+use Rattle.std.proofs.lemmas.Result.{err_from_is_err_and}
+use Rattle.er7_redact.specs.Action.{keep, clear, null, pseudonym, first, last, held_as, held_action, read_argument, refusal_of}
+use Rattle.er7_redact.proofs.Actions.{by_verb, by_bare, by_count, by_no_count, by_days, by_no_days, replace_held}
 use Rattle.er7_redact.proofs.action.read_argument.Goals as goal
 
 pub returns-in-Keep : goal.returns-in-Keep
@@ -28,16 +28,35 @@ pub returns-in-Mask : goal.returns-in-Mask
 unfolding read_argument refusal_of
 returns-in-Mask c = by_verb _ _ _ c.in-Mask.is refl (rw c.in-Mask.is (c.read_mask.ensures _ _))
 
-pub returns-in-First : goal.returns-in-First
-unfolding held_as read_argument refusal_of
-returns-in-First c = by_count _ _ _ c.in-First.is refl first Held.First (λ u. refl) (λ k. refl) c.read_count.ensures c.first_of.ensures
+pub returns-in_err-read_count-in-First : goal.returns-in_err-read_count-in-First
+unfolding read_argument refusal_of
+returns-in_err-read_count-in-First c =
+    let p = err_from_is_err_and c.from_residual.result c.from_residual.ensures.1 in
+    by_no_count _ _ _ c.in-First.is refl first (λ u. refl) c.in_err-read_count-in-First.ensures (p.1 ∙ ap Err p.2)
 
-pub returns-in-Last : goal.returns-in-Last
+pub returns-in_ok-read_count-in-First : goal.returns-in_ok-read_count-in-First
 unfolding held_as read_argument refusal_of
-returns-in-Last c = by_count _ _ _ c.in-Last.is refl last Held.Last (λ u. refl) (λ k. refl) c.read_count-in-Last.ensures c.last_of.ensures
+returns-in_ok-read_count-in-First c = by_count _ _ _ c.in-First.is refl first (λ u. refl) c.in_ok-read_count-in-First.ensures refl
 
-pub returns-in-Shift : goal.returns-in-Shift
-returns-in-Shift c = by_days _ _ c.in-Shift.is c.is_negative.ensures c.without_sign.ensures c.read_whole.ensures c.shift_by.ensures
+pub returns-in_err-read_count-in-Last : goal.returns-in_err-read_count-in-Last
+unfolding read_argument refusal_of
+returns-in_err-read_count-in-Last c =
+    let p = err_from_is_err_and c.from_residual-in_err-read_count-in-Last.result c.from_residual-in_err-read_count-in-Last.ensures.1 in
+    by_no_count _ _ _ c.in-Last.is refl last (λ u. refl) c.in_err-read_count-in-Last.ensures (p.1 ∙ ap Err p.2)
+
+pub returns-in_ok-read_count-in-Last : goal.returns-in_ok-read_count-in-Last
+unfolding held_as read_argument refusal_of
+returns-in_ok-read_count-in-Last c = by_count _ _ _ c.in-Last.is refl last (λ u. refl) c.in_ok-read_count-in-Last.ensures refl
+
+pub returns-in_err-read_days-in-Shift : goal.returns-in_err-read_days-in-Shift
+returns-in_err-read_days-in-Shift c =
+    let p = err_from_is_err_and c.from_residual-in_err-read_days-in-Shift.result c.from_residual-in_err-read_days-in-Shift.ensures.1 in
+    rw (p.1, p.2) (by_no_days _ _ _ c.in-Shift.is c.in_err-read_days-in-Shift.ensures)
+
+pub returns-in_ok-read_days-in-Shift : goal.returns-in_ok-read_days-in-Shift
+returns-in_ok-read_days-in-Shift c =
+    let i : to_z w64 (of_z w64 c.in_ok-read_days-in-Shift.field-0) ≡ c.in_ok-read_days-in-Shift.field-0 = search rules in
+    rw i (by_days _ _ _ c.in-Shift.is c.in_ok-read_days-in-Shift.ensures)
 
 pub returns-in-Unknown : goal.returns-in-Unknown
 unfolding held_action read_argument refusal_of

@@ -1,4 +1,4 @@
-use native.Mathlib.Omega.{arith}
+use Rattle.std.proofs.Common.{arith}
 use Rattle.er7_redact.proofs.Actions.{mask_bare, mask_one, mask_more}
 use Rattle.er7_redact.proofs.action.read_mask.Goals as goal
 

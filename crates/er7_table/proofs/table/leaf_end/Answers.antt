@@ -1,15 +1,12 @@
-use native.Mathlib.Omega.{arith}
-use Rattle.er7_table.proofs.Reading.{running_start, running_more, running_stop, running_end}
+use Rattle.std.proofs.Common.{arith}
+use Rattle.std.proofs.lemmas.List.{take_rest}
+use Rattle.er7_table.proofs.Reading.{leaf_ends}
 use Rattle.er7_table.proofs.table.leaf_end.Goals as goal
 
-pub loop-j-init : goal.loop-j-init
-loop-j-init c = running_start _ _ _ (omega arith)
-
-pub returns-then-ends_leaf : goal.returns-then-ends_leaf
-returns-then-ends_leaf c = running_stop c.loop-j.invariant c.ends_leaf.ensures (omega arith) c.if-ends_leaf.true
-
-pub loop-j-preserved : goal.loop-j-preserved
-loop-j-preserved c = running_more c.loop-j.invariant c.ends_leaf.ensures (omega arith) c.if-ends_leaf.false
+pub overflow_add-result : goal.overflow_add-result
+overflow_add-result c =
+    let e = leaf_ends c.args.s c.args.text.now c.args.i c.leaf_len.result (omega arith) (rw take_rest at c.leaf_len.ensures) in
+    omega (arith, e.high)
 
 pub returns : goal.returns
-returns c = running_end c.loop-j.invariant (omega arith)
+returns c = leaf_ends _ _ _ _ (omega arith) (rw take_rest at c.leaf_len.ensures)

@@ -1,10 +1,5 @@
-use Prim.Native.Nat.{◌-◌}
 use Rattle.er7_table.proofs.Reading.{Going}
-use Rattle.refusal.specs.Limits.{LEAVES_MAX}
 use Rattle.er7_table.proofs.table.read_leaves.Given as goal
 
 abbrev pub invariant-loop-n : goal.invariant-loop-n
 invariant-loop-n l = Going l.s l.text l.from l.initial.p l.n0 l.initial.cells l.i l.n l.p l.cells
-
-abbrev pub decreases-loop-n : goal.decreases-loop-n
-decreases-loop-n l = LEAVES_MAX - l.n

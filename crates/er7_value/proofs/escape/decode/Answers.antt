@@ -1,4 +1,4 @@
-use native.Mathlib.Omega.{arith}
+use Rattle.std.proofs.Common.{arith}
 use Rattle.text.specs.Text.{part}
 use Rattle.er7_value.proofs.Decoding.{decoding_start, decoding_stretch, decoding_unpaired, decoding_paired, decoding_end}
 use Rattle.er7_value.proofs.escape.decode.Goals as goal

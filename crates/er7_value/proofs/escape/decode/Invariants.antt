@@ -1,5 +1,4 @@
-use Prim.Native.Nat.{◌-◌}
-use lib.ListN.{length}
+use Rattle.std.proofs.Common.{◌-◌, length}
 use Rattle.er7_value.proofs.Decoding.{Decoding}
 use Rattle.er7_value.proofs.escape.decode.Given as goal
 

@@ -1,12 +1,17 @@
-use native.Mathlib.Omega.{arith}
-use Rattle.er7_value.proofs.Encoding.{counting_start, counting_more, counting_end}
+use Rattle.std.proofs.Common.{◌≡◌, ◌∙◌, ◌<◌, ◌^◌, arith, rules}
+use Rattle.std.specs.List.{sum_by}
+use Rattle.std.proofs.iter.runs.Made.{chains}
+use Rattle.er7_value.proofs.Encoding.{run_len, encode_sum, encode_long}
 use Rattle.er7_value.proofs.escape.encoded_len.Goals as goal
 
-pub loop-j-init : goal.loop-j-init
-loop-j-init c = counting_start _ _
-
-pub loop-j-preserved : goal.loop-j-preserved
-loop-j-preserved c = counting_more c.loop-j.invariant (omega arith) c.byte_len-n.ensures
+pub sum-requires-clause-fits : goal.sum-requires-clause-fits
+sum-requires-clause-fits c =
+    let h : sum_by (run_len c.args.s) c.args.v.now < 2 ^ 64 = omega (arith, encode_sum c.args.s c.args.v.now, encode_long c.args.s c.args.v.now) in
+    search (rules, chains)
 
 pub returns : goal.returns
-returns c = counting_end c.loop-j.invariant (omega arith)
+returns c =
+    let s = c.args.s in
+    let v = c.args.v.now in
+    let e : c.sum.result ≡ sum_by (run_len s) v = search (rules, chains) in
+    (e ∙ encode_sum s v, omega (arith, e, encode_sum s v, encode_long s v))

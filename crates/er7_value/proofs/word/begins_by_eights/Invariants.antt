@@ -1,4 +1,4 @@
-use Prim.Native.Nat.{◌-◌}
+use Rattle.std.proofs.Common.{◌-◌}
 use Rattle.er7_value.proofs.Eights.{Standing}
 use Rattle.er7_value.proofs.word.begins_by_eights.Given as goal
 

@@ -1,19 +1,18 @@
-use mathlib.Core.Path.{sym, ◌∙◌}
-use native.Mathlib.Omega.{arith}
-use Rattle.er7_value.proofs.Hits.{searching_start, searching_on, searching_hit, searching_end}
+use Rattle.std.proofs.Common.{◌∙◌, sym, arith}
+use Rattle.er7_value.proofs.Hits.{whole_from_start, found_short, found_yes, found_no}
 use Rattle.er7_value.proofs.word.is_whole_word.Goals as goal
 
 pub returns-then-t-least : goal.returns-then-t-least
-returns-then-t-least c = searching_end (searching_start _ _) c.least_left-least.ensures (omega arith)
+returns-then-t-least c = sym (whole_from_start _ _ ∙ found_short c.args.v.now c.args.t.now 0 (omega arith))
 
 pub loop-place-init : goal.loop-place-init
-loop-place-init c = searching_start _ _
+loop-place-init c = whole_from_start _ _
 
 pub returns-then-is_hit_at : goal.returns-then-is_hit_at
-returns-then-is_hit_at c = searching_hit c.loop-place.invariant (omega arith) (sym c.if-is_hit_at.true ∙ c.is_hit_at.ensures)
+returns-then-is_hit_at c = sym (c.loop-place.invariant ∙ found_yes _ _ _ (omega arith) c.if-is_hit_at.ensures)
 
 pub loop-place-preserved : goal.loop-place-preserved
-loop-place-preserved c = searching_on c.loop-place.invariant (omega arith) (sym c.if-is_hit_at.false ∙ c.is_hit_at.ensures)
+loop-place-preserved c = c.loop-place.invariant ∙ found_no _ _ _ (omega arith) c.if-is_hit_at.ensures
 
 pub returns : goal.returns
-returns c = searching_end c.loop-place.invariant c.least_left-least.ensures (omega arith)
+returns c = sym (c.loop-place.invariant ∙ found_short c.args.v.now c.args.t.now _ (omega arith))

@@ -1,10 +1,7 @@
-use Prim.Native.Nat.{◌-◌}
-use lib.ListN.{length}
-use Rattle.er7_value.proofs.Hits.{Searching}
+use Rattle.std.proofs.Common.{◌≡◌}
+use Rattle.message_model.specs.Value.{is_whole_word}
+use Rattle.er7_value.proofs.Hits.{found_from}
 use Rattle.er7_value.proofs.word.is_whole_word.Given as goal
 
 abbrev pub invariant-loop-place : goal.invariant-loop-place
-invariant-loop-place l = Searching l.v l.t l.place
-
-abbrev pub decreases-loop-place : goal.decreases-loop-place
-decreases-loop-place l = length l.t - l.place
+invariant-loop-place l = is_whole_word l.v l.t ≡ found_from l.v l.t l.place

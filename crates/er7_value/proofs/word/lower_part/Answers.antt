@@ -1,12 +1,8 @@
-use native.Mathlib.Omega.{arith}
-use Rattle.er7_value.proofs.Lowering.{lowering_start, lowering_more, lowering_end}
+use Rattle.std.proofs.Common.{arith}
+use Rattle.std.proofs.lemmas.Grind.{common_steps}
+use Rattle.std.proofs.lemmas.List.Edits.{map_over_more}
+use Rattle.text.specs.Text.{lower_byte}
 use Rattle.er7_value.proofs.word.lower_part.Goals as goal
 
-pub loop-j-init : goal.loop-j-init
-loop-j-init c = (lowering_start _ _ (omega arith), omega arith)
-
-pub loop-j-preserved : goal.loop-j-preserved
-loop-j-preserved c = (lowering_more c.loop-j.invariant.0 (omega arith) c.lower_byte.ensures, omega arith)
-
-pub returns : goal.returns
-returns c = lowering_end _ c.loop-j.invariant.0 (omega arith)
+pub loop-b-preserved : goal.loop-b-preserved
+loop-b-preserved c = grind (arith, common_steps, map_over_more lower_byte)

@@ -1,9 +1,6 @@
-use Prim.Native.Nat.{◌-◌, ◌≤◌}
-use Rattle.er7_value.proofs.Lowering.{Lowering}
+use Rattle.std.proofs.Common.{◌≡◌, map, ◌++◌, take, drop}
+use Rattle.text.specs.Text.{lower_byte}
 use Rattle.er7_value.proofs.word.lower_part.Given as goal
 
-abbrev pub invariant-loop-j : goal.invariant-loop-j
-invariant-loop-j l = Lowering l.initial.buf l.i l.j l.buf × (l.j ≤ l.e)
-
-abbrev pub decreases-loop-j : goal.decreases-loop-j
-decreases-loop-j l = l.e - l.j
+abbrev pub invariant-loop-b : goal.invariant-loop-b
+invariant-loop-b l = l.b-items ≡ map lower_byte (take l.b-index l.initial.b-items) ++ drop l.b-index l.initial.b-items

@@ -1,4 +1,4 @@
-use native.Mathlib.Omega.{arith}
+use Rattle.std.proofs.Common.{arith}
 use Rattle.er7_value.proofs.Eights.{matching_start, matching_more, matching_end}
 use Rattle.er7_value.proofs.word.same_eight.Goals as goal
 

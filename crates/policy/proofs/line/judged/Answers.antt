@@ -1,4 +1,4 @@
-use native.Mathlib.Omega.{arith}
+use Rattle.std.proofs.Common.{arith}
 use Rattle.policy.proofs.Lines.{judged_long, judged_short}
 use Rattle.text.specs.Text.{between}
 use Rattle.policy.proofs.line.judged.Goals as goal

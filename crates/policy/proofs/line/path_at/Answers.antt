@@ -1,6 +1,6 @@
+use Rattle.std.proofs.Common.{arith}
 use Rattle.text.specs.Text.{between}
 use Rattle.policy.proofs.Lines.{path_between}
-use native.Mathlib.Omega.{arith}
 use Rattle.policy.proofs.line.path_at.Goals as goal
 
 pub returns : goal.returns

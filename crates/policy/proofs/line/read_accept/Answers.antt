@@ -1,4 +1,4 @@
-use native.Mathlib.Omega.{arith}
+use Rattle.std.proofs.Common.{arith}
 use Rattle.policy.proofs.Lines.{accept_bare, accept_more}
 use Rattle.policy.proofs.line.read_accept.Goals as goal
 

@@ -1,4 +1,4 @@
-use native.Mathlib.Omega.{arith}
+use Rattle.std.proofs.Common.{arith}
 use Rattle.policy.proofs.Lines.{line_long, line_reads}
 use Rattle.policy.proofs.line.read_line.Goals as goal
 

@@ -1,14 +1,12 @@
-use native.Mathlib.Omega.{arith}
-use mathlib.Core.Path.{subst}
-use Rattle.policy.specs.Line.{ParsedActionHeld}
-use Rattle.policy.proofs.Lines.{rule_right, rule_wrong}
+use Rattle.std.proofs.Common.{sym, ◌∙◌}
+use Rattle.policy.proofs.Lines.{hands_on, rule_right, rule_no_action, rule_no_path}
 use Rattle.policy.proofs.line.read_rule.Goals as goal
 
-pub with_path-requires : goal.with_path-requires
-with_path-requires c = (omega arith, omega arith, subst (ParsedActionHeld c.args.text.now) c.in-Parsed.is c.parse_action.ensures.held)
+pub returns-in_err-action : goal.returns-in_err-action
+returns-in_err-action c = hands_on _ c.from_residual.ensures.1 (rule_no_action _ _ _ c.in_err-action.ensures)
 
-pub returns-in-Refused : goal.returns-in-Refused
-returns-in-Refused c = rule_wrong _ _ _ c.parse_action.ensures c.in-Refused.is
+pub returns-in_err-path : goal.returns-in_err-path
+returns-in_err-path c = hands_on _ c.from_residual-in_err-path.ensures.1 (rule_no_path _ _ _ c.in_ok-action.ensures _ c.path_at.ensures (sym c.ok_or.ensures.value ∙ c.in_err-path.was))
 
 pub returns : goal.returns
-returns c = rule_right _ _ _ c.parse_action.ensures c.in-Parsed.is c.with_path.ensures
+returns c = rule_right _ _ _ c.in_ok-action.ensures _ c.path_at.ensures (sym c.ok_or.ensures.value ∙ c.in_ok-path.was)

@@ -1,7 +1,6 @@
-use native.Mathlib.Omega.{arith}
-use mathlib.Core.Path.{sym, ◌∙◌}
+use Rattle.std.proofs.Common.{sym, ◌∙◌, arith}
 use Rattle.text.specs.Text.{bytes, between}
-use Rattle.policy.proofs.Lines.{unrecognised_bare, unrecognised_refuse, unrecognised_pass, unrecognised_right, unrecognised_wrong}
+use Rattle.policy.proofs.Lines.{hands_on, unrecognised_bare, unrecognised_refuse, unrecognised_pass, unrecognised_right, unrecognised_wrong}
 use Rattle.policy.proofs.line.read_unrecognised.Goals as goal
 
 pub returns-then-i-e : goal.returns-then-i-e
@@ -15,10 +14,10 @@ pub returns-then-is_word-2 : goal.returns-then-is_word-2
 unfolding bytes between
 returns-then-is_word-2 c = unrecognised_pass c.args.text.now c.args.i c.args.e (omega arith) (omega arith) (sym c.is_word.ensures ∙ c.if-is_word.false) (sym c.is_word-2.ensures ∙ c.if-is_word-2.true)
 
-pub returns-in-Parsed : goal.returns-in-Parsed
+pub returns-in_err-a : goal.returns-in_err-a
 unfolding bytes between
-returns-in-Parsed c = unrecognised_right c.args.text.now c.args.i c.args.e (omega arith) (omega arith) (sym c.is_word.ensures ∙ c.if-is_word.false) (sym c.is_word-2.ensures ∙ c.if-is_word-2.false) c.parse_action.ensures c.in-Parsed.is c.applying.ensures
+returns-in_err-a c = hands_on _ c.from_residual.ensures.1 (unrecognised_wrong c.args.text.now c.args.i c.args.e (omega arith) (omega arith) (sym c.is_word.ensures ∙ c.if-is_word.false) (sym c.is_word-2.ensures ∙ c.if-is_word-2.false) c.in_err-a.ensures)
 
-pub returns-in-Refused : goal.returns-in-Refused
+pub returns : goal.returns
 unfolding bytes between
-returns-in-Refused c = unrecognised_wrong c.args.text.now c.args.i c.args.e (omega arith) (omega arith) (sym c.is_word.ensures ∙ c.if-is_word.false) (sym c.is_word-2.ensures ∙ c.if-is_word-2.false) c.parse_action.ensures c.in-Refused.is
+returns c = unrecognised_right c.args.text.now c.args.i c.args.e (omega arith) (omega arith) (sym c.is_word.ensures ∙ c.if-is_word.false) (sym c.is_word-2.ensures ∙ c.if-is_word-2.false) c.in_ok-a.ensures c.applying.ensures

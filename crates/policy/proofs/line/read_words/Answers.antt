@@ -1,4 +1,4 @@
-use native.Mathlib.Omega.{arith}
+use Rattle.std.proofs.Common.{arith}
 use Rattle.policy.proofs.Lines.{words_none, words_some}
 use Rattle.policy.proofs.line.read_words.Goals as goal
 

@@ -1,11 +1,7 @@
-use mathlib.Core.Path.{sym, ◌∙◌}
-use native.Mathlib.Omega.{arith}
+use Rattle.std.proofs.Common.{sym, ◌∙◌, arith}
 use Rattle.text.specs.Text.{is_in}
-use Rattle.policy.proofs.Lines.{trimming_start, trimming_more, trimming_stop, trimming_end}
+use Rattle.policy.proofs.Lines.{trimming_more, trimming_stop, trimming_end}
 use Rattle.policy.proofs.line.trimmed_end.Goals as goal
-
-pub loop-j-init : goal.loop-j-init
-loop-j-init c = trimming_start _ _ _ (omega arith)
 
 pub returns-then-not-is_in : goal.returns-then-not-is_in
 unfolding is_in

@@ -3,6 +3,3 @@ use Rattle.policy.proofs.line.trimmed_end.Given as goal
 
 abbrev pub invariant-loop-j : goal.invariant-loop-j
 invariant-loop-j l = Trimming l.text l.i l.e l.j
-
-abbrev pub decreases-loop-j : goal.decreases-loop-j
-decreases-loop-j l = l.j

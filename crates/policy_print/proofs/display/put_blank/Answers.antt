@@ -1,4 +1,4 @@
-use native.Mathlib.Omega.{arith}
+use Rattle.std.proofs.Common.{arith}
 use Rattle.text.proofs.Writes.{wrote_none}
 use Rattle.policy_print.proofs.Parts.{blank_none, blank_some}
 use Rattle.policy_print.proofs.display.put_blank.Goals as goal

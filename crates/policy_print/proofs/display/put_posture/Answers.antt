@@ -1,7 +1,6 @@
-use native.Mathlib.Omega.{arith}
+use Rattle.std.proofs.Common.{arith, subst}
 use Rattle.text.specs.Text.{bytes}
 use Rattle.text.proofs.Writes.{wrote_length}
-use mathlib.Core.Path.{subst}
 use Rattle.policy.specs.Line.{PostureHeld}
 use Rattle.policy_print.proofs.Parts.{accept_room, accept_wrote, reject_room, reject_wrote}
 use Rattle.policy_print.proofs.display.put_posture.Goals as goal

@@ -1,8 +1,7 @@
-use native.Mathlib.Omega.{arith}
+use Rattle.std.proofs.Common.{arith, ℕ, ◌+◌, ◌-◌}
+use Rattle.std.proofs.lemmas.List.{length-replicate}
 use Rattle.text.proofs.Writes.{wrote_length}
 use Rattle.er7_redact.specs.Policy.{as_rule}
-use lib.ListN.{length-replicate}
-use Prim.Native.Nat.{ℕ, ◌+◌, ◌-◌}
 use Rattle.policy_print.proofs.Parts.{rule_length, rule_wrote}
 use Rattle.policy_print.proofs.display.put_rule.Goals as goal
 

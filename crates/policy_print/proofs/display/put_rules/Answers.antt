@@ -1,20 +1,22 @@
-use native.Mathlib.Omega.{arith}
-use Rattle.policy_print.proofs.Parts.{rules_start, rules_more, rule_narrow, rule_fits}
-use Rattle.text.proofs.Writes.{wrote_length}
-use Rattle.policy_print.proofs.Parts.{rules_end}
+use Rattle.std.proofs.Common.{le_refl, sym, arith}
+use Rattle.policy_print.proofs.Parts.{rules_start, rules_more, rule_narrow, rule_fits, all_rules, rule_in}
 use Rattle.policy_print.proofs.display.put_rules.Goals as goal
 
-pub loop-i-init : goal.loop-i-init
-loop-i-init c = rules_start _ _ _ _ _ _ (omega arith)
+pub loop-rule-init : goal.loop-rule-init
+loop-rule-init c = rules_start _ _ _ _ _ (omega arith)
 
 pub put_rule-k-requires : goal.put_rule-k-requires
-put_rule-k-requires c = (c.requires.0.rules.each c.loop-i.i _ (omega arith), rule_narrow _ _ _ _ _ _ (omega arith) (omega (arith, c.requires.0.few, c.requires.0.long)) c.requires.1, rule_fits _ _ _ _ _ _ (omega arith) (omega (arith, c.requires.0.few, c.requires.0.long)) c.loop-i.invariant c.requires.2)
+put_rule-k-requires c =
+    let all = all_rules c.args.text.now c.args.policy.now.rules c.args.policy.now.count _ (le_refl _) in (
+      rule_in c.requires.0.rules _ c.loop-rule-test.true,
+      rule_narrow _ _ _ _ _ c.loop-rule-test.true (rw all c.requires.1),
+      rule_fits _ _ _ _ _ c.loop-rule-test.true c.loop-rule.invariant (rw all c.requires.2),
+    )
 
-pub loop-i-preserved : goal.loop-i-preserved
-loop-i-preserved c = rules_more _ _ _ _ _ _ (omega arith) (omega (arith, c.requires.0.few, c.requires.0.long)) c.loop-i.invariant c.put_rule-k.ensures
-
-pub shape_of-out : goal.shape_of-out
-shape_of-out c = wrote_length c.loop-i.invariant.wrote
+pub loop-rule-preserved : goal.loop-rule-preserved
+loop-rule-preserved c = rules_more _ _ _ _ _ c.loop-rule-test.true c.loop-rule.invariant c.put_rule-k.ensures
 
 pub returns : goal.returns
-returns c = rules_end c.loop-i.invariant (omega arith)
+returns c =
+    let all = all_rules c.args.text.now c.args.policy.now.rules c.args.policy.now.count _ c.loop-rule-test.false in
+    rw (sym all) c.loop-rule.invariant.wrote

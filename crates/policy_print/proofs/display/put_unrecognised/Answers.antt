@@ -1,7 +1,6 @@
-use native.Mathlib.Omega.{arith}
+use Rattle.std.proofs.Common.{arith, subst}
 use Rattle.text.specs.Text.{bytes}
 use Rattle.text.proofs.Writes.{wrote_length, wrote_then}
-use mathlib.Core.Path.{subst}
 use Rattle.policy.specs.Line.{UnrecognisedHeld}
 use Rattle.policy_print.proofs.Parts.{pass_text, refuse_text, apply_text, unrecognised_room, text_room, unrecognised_wrote}
 use Rattle.policy_print.proofs.Parts.{apply_room}

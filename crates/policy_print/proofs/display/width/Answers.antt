@@ -1,18 +1,17 @@
-use native.Mathlib.Omega.{arith}
+use Rattle.std.proofs.Common.{◌≡◌, max, ap, ◌∙◌, rules}
 use Rattle.er7_redact.specs.Policy.{as_rule}
-use Rattle.policy_print.proofs.Parts.{width_start, width_more}
-use Rattle.policy_print.proofs.Parts.{width_end}
+use Rattle.policy_model.specs.Policy.{width}
+use Rattle.policy_print.proofs.Parts.{width_start, width_more, all_rules}
 use Rattle.policy_print.proofs.display.width.Goals as goal
 
-pub loop-i-init : goal.loop-i-init
-loop-i-init c = width_start _ _ _
+pub loop-rule-init : goal.loop-rule-init
+loop-rule-init c = width_start _ _
 
-pub printed_len-len-requires : goal.printed_len-len-requires
-printed_len-len-requires c = (c.requires.rules.each c.loop-i.i _ (omega arith)).path
-
-pub loop-i-preserved : goal.loop-i-preserved
+pub loop-rule-preserved : goal.loop-rule-preserved
 unfolding as_rule
-loop-i-preserved c = width_more _ _ _ _ _ _ c.loop-i.invariant (omega arith) (omega (arith, c.requires.few, c.requires.long)) c.printed_len-len.ensures c.greater-w.ensures
+loop-rule-preserved c =
+    let e : c.max-w.result ≡ max c.loop-rule.w c.printed_len-len.result = search rules in
+    rw e (width_more _ _ _ _ _ c.loop-rule.invariant c.loop-rule-test.true c.printed_len-len.ensures)
 
 pub returns : goal.returns
-returns c = width_end c.loop-i.invariant (omega arith)
+returns c = c.loop-rule.invariant.is ∙ ap width (all_rules _ _ _ _ c.loop-rule-test.false)

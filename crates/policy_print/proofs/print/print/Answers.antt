@@ -1,4 +1,4 @@
-use native.Mathlib.Omega.{arith}
+use Rattle.std.proofs.Common.{arith}
 use Rattle.text.proofs.Writes.{wrote_length}
 use Rattle.policy_print.proofs.Whole.{print_length, print_wrote}
 use Rattle.policy_print.proofs.print.print.Goals as goal

@@ -1,4 +1,4 @@
-use native.Mathlib.Omega.{arith}
+use Rattle.std.proofs.Common.{arith}
 use Rattle.text.proofs.Writes.{wrote_length}
 use Rattle.er7_redact.specs.Policy.{as_posture}
 use Rattle.policy.specs.Line.{as_unrecognised}

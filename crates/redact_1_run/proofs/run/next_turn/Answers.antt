@@ -1,19 +1,13 @@
-use Rattle.redact_1_run.proofs.Rooms.{turn_ready_going, turn_ready_room, room_ahead, room_ordered, room_next, turn_made, turn_refused, next_stopped}
-use mathlib.Core.Path.{ap}
-use Rattle.redact_5_act.specs.State.{after_step}
+use Rattle.redact_2_turn.specs.Turn.{pass_of, pass_by}
+use Rattle.redact_1_run.proofs.Rooms.{room_ahead, room_ordered, room_turned}
 use Rattle.redact_1_run.proofs.run.next_turn.Goals as goal
 
-pub with_room-c-requires : goal.with_room-c-requires
-with_room-c-requires c = turn_ready_room (turn_ready_going _ _ _ _ _ c.requires.2 c.in-Going.is)
-
 pub take_turn-requires : goal.take_turn-requires
-take_turn-requires c = (c.requires.0, c.requires.1.named, c.requires.1.segmented, room_ordered c.requires.1.segmented c.with_room-c.ensures (turn_ready_going _ _ _ _ _ c.requires.2 c.in-Going.is).ordered, rw c.write_tally.ensures (room_ahead _ (turn_ready_going _ _ _ _ _ c.requires.2 c.in-Going.is) c.requires.1.leaves c.with_room-c.ensures))
+take_turn-requires c =
+    let l = c.requires.1 in
+    let p = c.requires.2 in
+    (record { held = c.requires.0; aim = c.aim_of-aim.ensures; policy = l.policy }, l.named, l.segmented, room_ordered l.segmented c.with_room.ensures p.ordered, room_ahead _ p l.leaves c.with_room.ensures)
 
-pub returns-in-Made : goal.returns-in-Made
-returns-in-Made c = room_next _ _ _ _ _ c.with_room-c.ensures (turn_ready_going _ _ _ _ _ c.requires.2 c.in-Going.is).held _ _ c.requires.1.segmented _ c.in-Going.is (turn_made c.write_tally.ensures c.take_turn.ensures (ap (after_step _) c.in-Made.is) c.read_tally.ensures)
-
-pub returns-in-Refused : goal.returns-in-Refused
-returns-in-Refused c = room_next _ _ _ _ _ c.with_room-c.ensures (turn_ready_going _ _ _ _ _ c.requires.2 c.in-Going.is).held _ _ c.requires.1.segmented _ c.in-Going.is (turn_refused c.write_tally.ensures c.take_turn.ensures (ap (after_step _) c.in-Refused.is))
-
-pub returns-in-Stopped : goal.returns-in-Stopped
-returns-in-Stopped c = next_stopped c.in-Stopped.is
+pub returns : goal.returns
+unfolding pass_by
+returns c = room_turned _ _ _ _ _ c.with_room.ensures c.requires.2.held (λ ks. pass_of c.args.on.key c.args.on.separators c.args.text.now ks c.args.turn) _ c.requires.1.segmented _ _ c.take_turn.ensures

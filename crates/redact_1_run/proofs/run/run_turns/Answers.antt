@@ -1,33 +1,37 @@
-use borrow.Author.Rules.{rules}
-use native.Mathlib.Omega.{arith}
-use Rattle.redact_1_run.proofs.Steps.{row_inside}
-use Rattle.redact_1_run.proofs.Course.{turns_start, turns_turn_ready, turns_more, turns_done, turn_held, job_held}
-use mathlib.Core.Path.{refl}
+use Rattle.std.proofs.Common.{ap}
+use Rattle.std.proofs.lemmas.Result.{err_from_is_err_and}
+use Rattle.redact_5_act.specs.State.{after_step}
+use Rattle.redact_1_run.proofs.Course.{none_taken, rule_asks, rule_made, rule_refused, posture_asks, posture_made, posture_refused, sweep_asks, sweep_ends}
 use Rattle.redact_1_run.proofs.run.run_turns.Goals as goal
 
-pub loop-k-init : goal.loop-k-init
-loop-k-init c = (turns_start _ _ _ _ c.requires.0 _ _, refl, refl)
+pub loop-rule-init : goal.loop-rule-init
+loop-rule-init c = none_taken _ _ _ _ _ _
 
-pub overflow_add-policy : goal.overflow_add-policy
-overflow_add-policy c = omega (arith, c.requires.0.few)
+pub next_turn-requires : goal.next_turn-requires
+next_turn-requires c = rule_asks _ _ _ _ _ _ c.requires.1 c.requires.2 c.requires.0 c.loop-rule.invariant c.loop-rule-test.true _ c.rule_turn-turn.ensures c.requires.3
 
-pub offset_bounds-policy-i : goal.offset_bounds-policy-i
-offset_bounds-policy-i c = search (rules, row_inside _ _ c.rule_row-i.ensures c.requires.0.few)
+pub returns-in_err-next_turn : goal.returns-in_err-next_turn
+returns-in_err-next_turn c =
+    let p = err_from_is_err_and c.from_residual.result c.from_residual.ensures.1 in
+    rw (p.1, p.2) (rule_refused _ _ _ _ _ _ c.requires.1 c.requires.2 c.requires.0 c.loop-rule.invariant c.loop-rule-test.true _ c.rule_turn-turn.ensures c.next_turn.ensures (ap (after_step _) c.in_err-next_turn.was))
 
-pub bounds-policy-i : goal.bounds-policy-i
-bounds-policy-i c = search (rules, row_inside _ _ c.rule_row-i.ensures c.requires.0.few, c.requires.0.long)
+pub loop-rule-preserved : goal.loop-rule-preserved
+loop-rule-preserved c = rule_made _ _ _ _ _ _ c.requires.1 c.requires.2 c.requires.0 c.loop-rule.invariant c.loop-rule-test.true _ c.rule_turn-turn.ensures c.next_turn.ensures (ap (after_step _) c.in_ok-next_turn.was)
 
-pub aim_of-aim-requires : goal.aim_of-aim-requires
-aim_of-aim-requires c = turn_held c.requires.0 _ c.rule_row-i.ensures _ _ _ c.turn_at-turn.ensures
+pub next_turn-requires-2 : goal.next_turn-requires-2
+next_turn-requires-2 c = posture_asks _ _ _ _ _ _ c.requires.1 c.requires.2 c.requires.0 c.loop-rule.invariant c.loop-rule.auto.rule-index-end c.loop-rule-test.false c.posture_turn-judging.ensures c.requires.3
 
-pub next_turn-done-requires : goal.next_turn-done-requires
-next_turn-done-requires c = (job_held c.requires.2 _ _ (turn_held c.requires.0 _ c.rule_row-i.ensures _ _ _ c.turn_at-turn.ensures) c.aim_of-aim.ensures, c.requires.2, turns_turn_ready _ _ _ _ c.requires.0 _ _ _ _ _ c.loop-k.invariant.0 c.requires.2 c.requires.3)
+pub returns-in_err-next_turn-2 : goal.returns-in_err-next_turn-2
+returns-in_err-next_turn-2 c =
+    let p = err_from_is_err_and c.from_residual-in_err-next_turn-2.result c.from_residual-in_err-next_turn-2.ensures.1 in
+    rw (p.1, p.2) (posture_refused _ _ _ _ _ _ c.requires.1 c.requires.2 c.requires.0 c.loop-rule.invariant c.loop-rule.auto.rule-index-end c.loop-rule-test.false c.posture_turn-judging.ensures c.next_turn-2.ensures (ap (after_step _) c.in_err-next_turn-2.was))
 
-pub overflow_add-k : goal.overflow_add-k
-overflow_add-k c = search (rules, c.loop-k-test, c.requires.0.few)
-
-pub loop-k-preserved : goal.loop-k-preserved
-loop-k-preserved c = (turns_more _ _ _ _ c.requires.0 _ _ _ _ _ c.loop-k.invariant.0 c.requires.1 c.requires.2 c.loop-k-test.true _ c.rule_row-i.ensures _ _ _ c.turn_at-turn.ensures _ _ c.next_turn-done.ensures, search (rules, c.loop-k.invariant.1), search (rules, c.loop-k.invariant.2))
+pub next_turn-requires-3 : goal.next_turn-requires-3
+next_turn-requires-3 c =
+    let w = posture_made _ _ _ _ _ _ c.requires.1 c.requires.2 c.requires.0 c.loop-rule.invariant c.loop-rule.auto.rule-index-end c.loop-rule-test.false c.posture_turn-judging.ensures c.next_turn-2.ensures (ap (after_step _) c.in_ok-next_turn-2.was) in
+    sweep_asks _ _ _ _ _ _ c.requires.1 c.requires.2 c.requires.0 w c.sweep_turn-sweeping.ensures c.requires.3
 
 pub returns : goal.returns
-returns c = turns_done _ _ _ _ c.requires.0 _ _ _ _ _ c.loop-k.invariant.0 c.loop-k-test.false
+returns c =
+    let w = posture_made _ _ _ _ _ _ c.requires.1 c.requires.2 c.requires.0 c.loop-rule.invariant c.loop-rule.auto.rule-index-end c.loop-rule-test.false c.posture_turn-judging.ensures c.next_turn-2.ensures (ap (after_step _) c.in_ok-next_turn-2.was) in
+    sweep_ends _ _ _ _ _ _ c.requires.1 c.requires.2 c.requires.0 w c.sweep_turn-sweeping.ensures _ c.next_turn-3.ensures

@@ -1,39 +1,31 @@
-use borrow.Author.Rules.{rules}
-use mathlib.Core.Path.{refl, ap}
-use native.Mathlib.Omega.{arith}
-use Rattle.redact_2_turn.proofs.Visiting.{coming_start, coming_passable, coming_ahead, coming_more, coming_stop, coming_end}
+use Rattle.std.proofs.Common.{arith, sym, ap, ◌∙◌}
+use Rattle.std.proofs.lemmas.Result.{err_from_is_err_and}
 use Rattle.redact_5_act.specs.State.{after_step}
+use Rattle.redact_2_turn.proofs.Visiting.{through_none, through_passed, through_passable, through_ahead, through_more, through_stop, through_all}
+use Rattle.redact_2_turn.proofs.turn.take_turn.Goals.{then-enters+in_ok-pass_leaves, else-enters}
 use Rattle.redact_2_turn.proofs.turn.take_turn.Goals as goal
 
-pub next_segment-k-requires : goal.next_segment-k-requires
-next_segment-k-requires c = (omega arith, omega (arith, c.requires.2.rows))
-
 pub loop-k-init : goal.loop-k-init
-loop-k-init c = record { coming = coming_start c.requires.0 _ c.requires.2 _ _ c.requires.4 c.next_segment-k.ensures; aim_is = refl; segments_are = refl }
-
-pub spot_of-at-requires : goal.spot_of-at-requires
-spot_of-at-requires c = (c.requires.1.named _ (omega (arith, c.loop-k.invariant.segments_are)), omega (arith, c.requires.2.rows, c.loop-k.invariant.segments_are))
+loop-k-init c = through_none c.requires.0 _ c.requires.2 _ _ c.requires.4
 
 pub pass_leaves-requires : goal.pass_leaves-requires
-pass_leaves-requires c = (c.requires.0, coming_passable c.requires.0 _ c.requires.2 _ _ c.loop-k.invariant.coming (omega (arith, c.loop-k.invariant.segments_are)) c.spot_of-at.ensures c.requires.3, coming_ahead c.requires.0 _ c.requires.2 _ _ c.loop-k.invariant.coming (omega (arith, c.loop-k.invariant.segments_are)) c.spot_of-at.ensures)
+pass_leaves-requires c =
+    (c.requires.0, through_passable c.requires.0 _ c.requires.2 _ _ c.loop-k.invariant c.loop-k-test.true c.spot_of.ensures (sym c.enters.ensures ∙ c.if-enters.true) c.requires.3, through_ahead c.requires.0 _ c.requires.2 _ _ c.loop-k.invariant c.loop-k-test.true c.spot_of.ensures)
 
-pub shape_of-cells-in-Refused : goal.shape_of-cells-in-Refused
-shape_of-cells-in-Refused c = search (rules, c.loop-k.invariant.coming.turning.kept.cells)
-
-pub shape_of-report-in-Refused : goal.shape_of-report-in-Refused
-shape_of-report-in-Refused c = search (rules, c.loop-k.invariant.coming.turning.kept.report)
-
-pub returns-in-Refused : goal.returns-in-Refused
-returns-in-Refused c = coming_stop c.requires.0 _ c.requires.2 _ _ c.loop-k.invariant.coming (omega (arith, c.loop-k.invariant.segments_are)) c.spot_of-at.ensures c.pass_leaves.ensures (ap (after_step _) c.in-Refused.is)
-
-pub overflow_add-k : goal.overflow_add-k
-overflow_add-k c = omega (arith, c.loop-k.invariant.segments_are, c.requires.2.rows)
-
-pub next_segment-k-requires-in-loop-k : goal.next_segment-k-requires-in-loop-k
-next_segment-k-requires-in-loop-k c = (omega arith, omega (arith, c.requires.2.rows, c.loop-k.invariant.segments_are))
+pub returns-in_err-pass_leaves : goal.returns-in_err-pass_leaves
+returns-in_err-pass_leaves c =
+    let p = err_from_is_err_and c.from_residual.result c.from_residual.ensures.1 in
+    rw (p.1, p.2) (through_stop c.requires.0 _ c.requires.2 _ _ c.loop-k.invariant c.loop-k-test.true c.spot_of.ensures c.pass_leaves.ensures (ap (after_step _) c.in_err-pass_leaves.was))
 
 pub loop-k-preserved : goal.loop-k-preserved
-loop-k-preserved c = record { coming = coming_more c.requires.0 _ c.requires.2 _ _ c.loop-k.invariant.coming (omega (arith, c.loop-k.invariant.segments_are)) c.spot_of-at.ensures c.pass_leaves.ensures (ap (after_step _) c.in-Made.is) (rw (c.loop-k.invariant.aim_is, c.loop-k.invariant.segments_are) at c.next_segment-k-in-loop-k.ensures); aim_is = c.loop-k.invariant.aim_is; segments_are = c.loop-k.invariant.segments_are }
+loop-k-preserved c = elim c.if-enters.branch [
+  | then-enters+in_ok-pass_leaves w ↦
+      rw (w.named-is, w.cells-is, w.store-is, w.report-is, w.bytes-is, w.known-is, w.counters-is)
+      (through_more c.requires.0 _ c.requires.2 _ _ c.loop-k.invariant c.loop-k-test.true w.spot_of.ensures w.pass_leaves.ensures (ap (after_step _) w.in_ok-pass_leaves.was))
+  | else-enters w ↦
+      rw (w.named-is, w.cells-is, w.store-is, w.report-is, w.bytes-is, w.known-is, w.counters-is)
+      (through_passed c.requires.0 _ c.requires.2 _ _ c.loop-k.invariant c.loop-k-test.true (sym c.enters.ensures ∙ w.if-enters.false))
+]
 
 pub returns : goal.returns
-returns c = coming_end c.requires.0 _ c.requires.2 _ _ c.loop-k.invariant.coming (omega (arith, c.loop-k.invariant.segments_are))
+returns c = through_all c.requires.0 _ c.requires.2 _ _ c.loop-k.invariant (omega arith)

@@ -1,16 +1,15 @@
-use native.Mathlib.Omega.{arith}
-use mathlib.Core.Path.{sym, ◌∙◌}
-use Rattle.redact_3_node.proofs.Nodes.{seeking_start, seeking_found, seeking_more, seeking_end}
+use Rattle.std.proofs.Common.{◌≡◌, true, false, rules, ◌∙◌}
+use Rattle.std.proofs.lemmas.Iterator.{first_from_Range}
+use Rattle.redact_6_row.specs.Reach.{as_reach}
+use Rattle.redact_3_node.specs.Node.{opens}
+use Rattle.redact_3_node.proofs.Nodes.{end_found}
 use Rattle.redact_3_node.proofs.node.node_end.Goals as goal
 
-pub loop-j-init : goal.loop-j-init
-loop-j-init c = seeking_start c.requires.0
-
-pub returns-then-opens : goal.returns-then-opens
-returns-then-opens c = seeking_found c.loop-j.invariant (omega arith) (sym c.opens.ensures ∙ c.if-opens.true)
-
-pub loop-j-preserved : goal.loop-j-preserved
-loop-j-preserved c = seeking_more c.loop-j.invariant (omega arith) (sym c.opens.ensures ∙ c.if-opens.false)
-
 pub returns : goal.returns
-returns c = seeking_end c.loop-j.invariant (omega arith)
+returns c =
+    let r = as_reach c.args.reach in
+    let cells = c.args.cells.now in
+    c.unwrap_or.ensures ∙ end_found r cells c.args.i c.args.end c.requires.0 c.find.result
+    (first_from_Range _ _ _ _ (λ j. opens r cells j ≡ true) (λ j. opens r cells j ≡ false) c.find.ensures.ran
+    (λ x q k. search rules)
+    (λ x q k. (search rules, search rules)))

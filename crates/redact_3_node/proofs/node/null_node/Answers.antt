@@ -4,9 +4,9 @@ use Rattle.er7_table.specs.Table.{cell}
 use Rattle.redact_3_node.proofs.Collapses.{already_is, went_is, node_stays, node_becomes, rest_ready, rest_fits, ready_learnable}
 use Rattle.redact_3_node.proofs.node.null_node.Goals as goal
 
-pub overflow_add-stop : goal.overflow_add-stop
+pub overflow_add-start-2 : goal.overflow_add-start-2
 unfolding cell
-overflow_add-stop c = omega (arith, (ready_learnable c.requires.1).inside c.args.at.index c.requires.1.inside)
+overflow_add-start-2 c = omega (arith, (ready_learnable c.requires.1).inside c.args.at.index c.requires.1.inside)
 
 pub leaves_size-rest-requires : goal.leaves_size-rest-requires
 leaves_size-rest-requires c = rest_ready c.requires.1

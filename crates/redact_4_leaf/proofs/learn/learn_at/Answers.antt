@@ -1,8 +1,9 @@
-use native.Mathlib.Omega.{arith}
-use Rattle.redact_4_leaf.proofs.Learnt.{learning_off, learning_kept, learning_full, readable_by}
+use Rattle.std.proofs.Common.{arith}
+use Rattle.std.proofs.lemmas.Result.{err_from_is_err_and}
+use borrow.Author.Tests.{not-true, not-false}
 use Rattle.er7_table.specs.Table.{cell}
 use Rattle.redact_4_leaf.specs.State.{text_in}
-use borrow.Author.Tests.{not-true, not-false}
+use Rattle.redact_4_leaf.proofs.Learnt.{learning_off, learning_kept, learning_full}
 use Rattle.redact_4_leaf.proofs.learn.learn_at.Goals as goal
 
 pub returns-then-not-on : goal.returns-then-not-on
@@ -18,12 +19,14 @@ slice_bounds-learn_leaf-end c = omega (arith, c.requires.inside)
 
 pub learn_leaf-requires : goal.learn_leaf-requires
 unfolding cell
-learn_leaf-requires c = let g = readable_by c.read_tally-c.ensures c.requires in (g.good, omega (arith, g.short))
+learn_leaf-requires c = (c.requires.good, omega (arith, c.requires.short))
 
-pub returns-in-Kept : goal.returns-in-Kept
+pub returns-in_err-count : goal.returns-in_err-count
 unfolding cell text_in
-returns-in-Kept c = λ text q h. learning_kept _ _ _ _ _ c.learn_leaf.ensures _ (not-false _ c.if-not-on.false) text c.read_tally-c.ensures c.in-Kept.is q h c.write_tally.ensures
+returns-in_err-count c = λ text q h.
+    let p = err_from_is_err_and c.from_residual.result c.from_residual.ensures.1 in
+    rw (p.1, p.2) (learning_full _ _ _ _ _ c.learn_leaf.ensures _ (not-false _ c.if-not-on.false) text c.in_err-count.was)
 
-pub returns-in-Full : goal.returns-in-Full
+pub returns : goal.returns
 unfolding cell text_in
-returns-in-Full c = λ text q h. learning_full _ _ _ _ _ c.learn_leaf.ensures _ (not-false _ c.if-not-on.false) text c.read_tally-c.ensures c.in-Full.is
+returns c = λ text q h. learning_kept _ _ _ _ _ c.learn_leaf.ensures _ (not-false _ c.if-not-on.false) text c.in_ok-count.was q h

@@ -1,3 +1,4 @@
+use Rattle.std.proofs.Common.{refl}
 use native.Mathlib.Omega.{arith}
 use mathlib.Core.Path.{sym, ◌∙◌}
 use Rattle.text.specs.Text.{between}
@@ -7,7 +8,7 @@ use Rattle.redact_5_act.proofs.Acts.{escaped_over, escaped_same, escaped_room, e
 use Rattle.redact_5_act.proofs.act.put_escaped.Goals as goal
 
 pub returns-then-is_over : goal.returns-then-is_over
-returns-then-is_over c = record { out = escaped_over _ _ (part_slice _ _ _) c.encoded_len-m.ensures.0 (sym c.is_over.ensures ∙ c.if-is_over.true); beside = same_all }
+returns-then-is_over c = record { out = (refl, escaped_over _ _ (part_slice _ _ _) c.encoded_len-m.ensures.0 (sym c.is_over.ensures ∙ c.if-is_over.true)); beside = same_all }
 
 pub returns-then-m-n : goal.returns-then-m-n
 returns-then-m-n c = record { out = escaped_same _ _ (part_slice _ _ _) c.encoded_len-m.ensures.0 (sym c.is_over.ensures ∙ c.if-is_over.false) (omega arith) c.if-m-n.true; beside = same_all }

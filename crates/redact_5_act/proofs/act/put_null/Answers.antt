@@ -10,7 +10,7 @@ use Rattle.redact_5_act.proofs.act.put_null.Goals as goal
 
 pub returns-then-is_over : goal.returns-then-is_over
 unfolding NULL bytes
-returns-then-is_over c = record { out = overran NULL refl (sym c.is_over.ensures ∙ c.if-is_over.true) }
+returns-then-is_over c = record { out = (refl, overran NULL refl (sym c.is_over.ensures ∙ c.if-is_over.true)) }
 
 pub copy_at-requires : goal.copy_at-requires
 copy_at-requires c = omega (arith, c.requires (ltb-false TEXT_MAX _ (sym c.is_over.ensures ∙ c.if-is_over.false)))

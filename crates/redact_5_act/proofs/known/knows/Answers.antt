@@ -12,9 +12,6 @@ is_value-requires c = (c.requires.0.slot _ (omega arith), c.requires.1, c.requir
 pub returns-then-is_value : goal.returns-then-is_value
 returns-then-is_value c = looking_found c.loop-k.invariant (omega arith) (sym c.is_value.ensures ∙ c.if-is_value.true)
 
-pub loop-k-smaller : goal.loop-k-smaller
-loop-k-smaller c = omega arith
-
 pub loop-k-preserved : goal.loop-k-preserved
 loop-k-preserved c = looking_more c.loop-k.invariant (omega arith) (sym c.is_value.ensures ∙ c.if-is_value.false)
 

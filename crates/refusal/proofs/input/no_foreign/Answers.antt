@@ -1,4 +1,4 @@
-use native.Mathlib.Omega.{arith}
+use Rattle.std.proofs.Common.{arith}
 use Rattle.refusal.proofs.Foreign.{tested_none, tested_more, tested_all}
 use Rattle.refusal.proofs.input.no_foreign.Goals as goal
 

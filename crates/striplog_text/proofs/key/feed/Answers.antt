@@ -1,12 +1,9 @@
-use native.Mathlib.Omega.{arith}
-use Rattle.striplog_text.proofs.Keys.{feeding_start, feeding_more, feeding_end}
+use Rattle.std.proofs.Common.{◌∙◌, rules}
+use Rattle.std.proofs.lemmas.Iterator.{YieldsList-from_slice}
+use Rattle.std.proofs.lemmas.Iterator.Consumers.{fold_from_yields_List}
+use Rattle.striplog_text.specs.Key.{fed_byte}
+use Rattle.striplog_text.proofs.Keys.{fed_fold}
 use Rattle.striplog_text.proofs.key.feed.Goals as goal
 
-pub loop-j-init : goal.loop-j-init
-loop-j-init c = feeding_start _ _
-
-pub loop-j-preserved : goal.loop-j-preserved
-loop-j-preserved c = feeding_more c.loop-j.invariant (omega arith) c.feed_byte-k.ensures
-
 pub returns : goal.returns
-returns c = feeding_end c.loop-j.invariant (omega arith)
+returns c = fold_from_yields_List _ fed_byte _ _ c.fold.ensures.ran (YieldsList-from_slice c.args.chunk.now cc) (λ a x b q k. search rules) ∙ fed_fold _ _

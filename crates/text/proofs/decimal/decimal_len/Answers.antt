@@ -1,15 +1,9 @@
-use native.Mathlib.Omega.{arith}
-use Rattle.text.proofs.Decimals.{length_more, length_small, length_positive, length_u64}
+use Rattle.std.proofs.Common.{arith, sym}
+use Rattle.text.proofs.Decimals.{length_is, length_small}
 use Rattle.text.proofs.decimal.decimal_len.Goals as goal
 
-pub loop-m-init : goal.loop-m-init
-loop-m-init c = omega arith
+pub returns-in-Some : goal.returns-in-Some
+returns-in-Some c = let e = c.in-Some.ensures in (sym (length_is c.in-Some.k c.args.n e.power_le e.next_power_gt), omega (arith, e.bound))
 
-pub overflow_add-k : goal.overflow_add-k
-overflow_add-k c = omega (arith, length_u64 c.args.n c.ranges.n.fits, length_positive c.loop-m.m)
-
-pub loop-m-preserved : goal.loop-m-preserved
-loop-m-preserved c = omega (arith, length_more c.loop-m.m (omega arith))
-
-pub returns : goal.returns
-returns c = omega (arith, length_small c.loop-m.m (omega arith), length_u64 c.args.n c.ranges.n.fits)
+pub returns-in-None : goal.returns-in-None
+returns-in-None c = let e = c.in-None.ensures in (sym (length_small c.args.n (omega (arith, e.none))), omega arith)

@@ -1,14 +1,7 @@
-use native.Mathlib.Omega.{arith}
-use Rattle.text.specs.Number.{hexadecimal}
-use Rattle.text.proofs.Spelling.{spelling_start, spelling_more, spelling_end}
+use Rattle.text.specs.Number.{hex_digit, hexadecimal}
+use Rattle.text.proofs.Spelling.{wrote_digits}
 use Rattle.text.proofs.positional.hexadecimal_at.Goals as goal
-
-pub loop-i-init : goal.loop-i-init
-loop-i-init c = (omega arith, spelling_start _ _ _ _ _ _)
-
-pub loop-i-preserved : goal.loop-i-preserved
-loop-i-preserved c = (omega arith, spelling_more _ _ _ _ _ c.loop-i.invariant.1 (omega arith) (omega arith) (omega arith) c.hex_digit.ensures)
 
 pub returns : goal.returns
 unfolding hexadecimal
-returns c = spelling_end _ _ c.loop-i.invariant.1 (omega arith) (omega arith)
+returns c = wrote_digits 16 hex_digit 16 _ c.requires (c.put_digits.ensures hex_digit (λ d r h e. e))
