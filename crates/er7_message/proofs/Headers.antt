@@ -21,7 +21,7 @@ not_or false b = refl
 absent_any : (x : ℕ) (xs : Text) → not (list_any (λ y. eqb y x) xs) ≡ absent x xs
 unfolding absent
 absent_any x [] = refl
-absent_any x (y ∷ xs) = rw (not_or, eqb_comm, absent_any x xs)
+absent_any x (y ∷ xs) = rw (not_or, eqb_comm x y, absent_any x xs)
 
 module _ (t : Text) (i : ℕ) (h : i < length t) {b : Bool}
     (e : b ≡ may_delimit (get_or t i 0) && not (list_any (λ y. eqb y (get_or t i 0)) (drop (i + 1) t))) where

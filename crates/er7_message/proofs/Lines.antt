@@ -1,10 +1,9 @@
 -- Laws of lines. Assumes nothing.
-use Rattle.std.proofs.Common.{◌≡◌, refl, ◌∙◌, Bool, true, false, not, List, [], ◌∷◌, ◌++◌, ℕ, ◌+◌, ◌-◌, ◌≤◌, ◌<◌, length, take, drop, get_or, arith, one-add, append-nil, append_assoc, length-drop, drop-drop, get_or-drop, drop_of_length-le, eq-eqb, eqb-true}
+use Rattle.std.proofs.Common.{◌≡◌, refl, ◌∙◌, Bool, true, false, not, List, [], ◌∷◌, ◌++◌, ℕ, ◌+◌, ◌-◌, ◌≤◌, ◌<◌, length, take, drop, get_or, arith, one-add, append-nil, append_assoc, length-drop, drop-drop, get_or-drop, drop_of_length-le, eq-eqb, eqb-true, eqb}
 use Rattle.std.proofs.lemmas.List.Sums.{prefix_len-le-length, passes_at_first}
 use Rattle.std.specs.List.{position_or_len}
 use mathlib.Core.Logic.{dite}
 use native.Mathlib.Decide.{ℕ_discrete}
-use lib.Dec.{eqb}
 use Rattle.text.specs.Text.{Text, part}
 use Rattle.text.proofs.Runs.{drop_step}
 use Rattle.message_model.specs.Message.{segment_lines}

@@ -1,21 +1,17 @@
--- Laws of bytes and names. Assumes nothing.
-use mathlib.Core.Path.{◌≡◌, refl, sym, ap, ◌∙◌}
-use mathlib.Core.Bool.{Bool, true, false, cond, not, ◌&&◌}
-use mathlib.Core.List.{List, [], ◌∷◌, ◌++◌}
-use Prim.Native.Nat.{ℕ, suc, ◌+◌, ◌-◌, ◌≤◌, ◌<◌}
-use native.Mathlib.Numerals.{add-one}
-use native.Mathlib.Omega.{arith}
-use lib.Dec.{eqb}
-use lib.ListN.{length, get_or}
-use Rattle.std.specs.List.{list_all}
+-- Laws of names and their occurrences. Assumes nothing.
+use Rattle.std.proofs.Common.{◌≡◌, refl, sym, ap, ◌∙◌, Bool, true, false, cond, not, ◌&&◌, List, [], ◌∷◌, ◌++◌, reverse, ℕ, zero, suc, ◌+◌, ◌≤◌, ◌<◌, length, take, get_or, eqb, Option, Some, None, is_some, arith, add-one, add-zero, take_all, get_or-take, length-take-le}
+use Rattle.std.specs.List.{list_all, find}
+use Rattle.std.proofs.lemmas.List.{take_more, reverse-append}
+use lib.Pointwise.{pointwise}
 use Rattle.text.specs.Text.{Text, same, all}
 use Rattle.text.proofs.Words.{same_eq}
-use Rattle.text.proofs.Laws.{by_cond}
+use Rattle.text.proofs.Laws.{by_cond, clash}
 use Rattle.message_model.specs.Message.{is_header_name, is_name_byte, is_name, count}
-use Rattle.er7_table.specs.Table.{cell, list_of, name_at}
-use Rattle.er7_table.proofs.Laws.{list_append, list_length}
+use Rattle.er7_table.specs.declared.table.Segment.{Segment as HeldSegment}
+use Rattle.er7_table.specs.declared.table.TheConstants.{NO_SEGMENT}
+use Rattle.er7_table.specs.Table.{list_of, segment_row, name_of, name_at}
+use Rattle.er7_table.proofs.Laws.{list_snoc, list_ext, list_length}
 use Rattle.er7_message.specs.Inner.{names, Numbered}
-use Rattle.er7_message.proofs.Headers.{and_end}
 
 -- ---- names
 
@@ -35,11 +31,15 @@ pub name_is : (n : Text) → length n ≡ 3 → is_name n ≡ list_all is_name_b
 unfolding is_name
 name_is n h = rw (all_list, ← three_bytes n h)
 
--- ---- occurrences
+-- what starts_with tests
+pub starts_same : (s t : Text) → pointwise eqb s t ≡ same s t
+unfolding same
+starts_same [] [] = refl
+starts_same [] (y ∷ t) = refl
+starts_same (x ∷ s) [] = refl
+starts_same (x ∷ s) (y ∷ t) = ap (λ (b : Bool). eqb x y && b) (starts_same s t)
 
-pub has_name : (segs : List ℕ) (k a b c : ℕ) → eqb (cell segs k 2) a && (eqb (cell segs k 3) b && eqb (cell segs k 4) c) ≡ same (name_at segs k) (a ∷ b ∷ c ∷ [])
-unfolding name_at same
-has_name segs k a b c = rw (and_end (eqb (cell segs k 4) c))
+-- ---- occurrences
 
 count_append : (n : Text) (ms ms' : List Text) → count n (ms ++ ms') ≡ count n ms + count n ms'
 unfolding count
@@ -51,53 +51,81 @@ unfolding count
 count_most n [] = omega arith
 count_most n (m ∷ ms) = by_cond (λ (c : ℕ). c + count n ms ≤ suc (length ms)) (same m n) 1 0 (λ _. omega (arith, count_most n ms)) (λ _. omega (arith, count_most n ms))
 
-module _ (segs : List ℕ) (n : Text) (k : ℕ) where
-  -- of the names behind segment j, which has the name n or not
-  names_split : (j : ℕ) → j ≤ k → count n (names segs 0 k) ≡ count n (names segs 0 j) + count n (names segs j (k - j))
+-- the row that an Option holds
+abbrev row_in : HeldSegment → Option HeldSegment → HeldSegment
+row_in d None = d
+row_in d (Some r) = r
+
+-- whether a row has the name n
+abbrev pub named_so : Text → HeldSegment → Bool
+named_so n s = same (name_of s.label) n
+
+module _ (segs : List HeldSegment) (n : Text) where
+  names_more : (k : ℕ) → names segs 0 (suc k) ≡ names segs 0 k ++ name_at segs k ∷ []
   unfolding names
-  names_split j h =
-      let z : j + (k - j) ≡ k = omega arith in
-      let y : 0 + j ≡ j = omega arith in
-      sym (ap (λ (i : ℕ). count n (list_of (name_at segs) 0 i)) z)
-      ∙ ap (count n) (list_append (name_at segs) 0 j (k - j) ∙ ap (λ (i : ℕ). list_of (name_at segs) 0 j ++ list_of (name_at segs) i (k - j)) y)
-      ∙ count_append n _ _
+  names_more k = let z : 0 + k ≡ k = omega arith in list_snoc (name_at segs) 0 k ∙ rw z
 
-  count_step : (j : ℕ) → j < k → count n (names segs j (k - j)) ≡ cond (same (name_at segs j) n) 1 0 + count n (names segs (j + 1) (k - (j + 1)))
-  unfolding count names list_of
-  count_step j h = let z : k - j ≡ suc (k - (j + 1)) = omega arith in rw (z, add-one)
+  count_one : (k : ℕ) (b : Bool) → named_so n (segment_row segs k) ≡ b → count n (name_at segs k ∷ []) ≡ cond b 1 0
+  unfolding count name_at
+  count_one k b e = rw (e, add-zero)
 
-  -- ---- none of the segments from j on has the name
-  pub record Looking (j : ℕ) : Type 0 where
-    pub high : j ≤ k
-    pub none : count n (names segs j (k - j)) ≡ 0
+  named_more : (k : ℕ) (b : Bool) → named_so n (segment_row segs k) ≡ b → count n (names segs 0 (suc k)) ≡ count n (names segs 0 k) + cond b 1 0
+  named_more k b e = rw (names_more k, ← count_one k b e) (count_append n (names segs 0 k) (name_at segs k ∷ []))
 
-  pub looking_start : Looking k
-  unfolding count names list_of
-  looking_start = let z : k - k ≡ 0 = omega arith in record { high = omega arith; none = rw z }
+  -- the rows up to row k from the last on
+  last_first : (k : ℕ) → k < length segs → reverse (take (suc k) segs) ≡ segment_row segs k ∷ reverse (take k segs)
+  last_first k h = rw (← add-one, take_more segs k NO_SEGMENT h, reverse-append)
 
-module _ {segs : List ℕ} {n : Text} {k j : ℕ} (g : Looking segs n k j) (h : 0 < j) {b : Bool} (q : b ≡ same (name_at segs (j - 1)) n) where
-  last_step : {d : Bool} → same (name_at segs (j - 1)) n ≡ d → count n (names segs (j - 1) (k - (j - 1))) ≡ cond d 1 0
-  last_step e =
-      let z : j - 1 + 1 ≡ j = omega arith in
-      count_step segs n k (j - 1) (omega (arith, g.high)) ∙ rw (e, z, g.none) (omega arith)
+  -- the last row of that name
+  pub found : (k : ℕ) → k ≤ length segs → Numbered segs k → (r : HeldSegment) → find (named_so n) (reverse (take k segs)) ≡ Some r → r.label.occurrence ≡ count n (names segs 0 k)
+  found zero h w r e = clash (sym (ap is_some e))
+  found (suc k) h w r e =
+      go (named_so n (segment_row segs k)) refl (rw last_first at e) (found k (omega arith) (record { number = λ j l. w.number j (omega arith) }) r)
+    where
+      go : (b : Bool) → named_so n (segment_row segs k) ≡ b → find (named_so n) (segment_row segs k ∷ reverse (take k segs)) ≡ Some r
+          → (find (named_so n) (reverse (take k segs)) ≡ Some r → r.label.occurrence ≡ count n (names segs 0 k)) → r.label.occurrence ≡ count n (names segs 0 (suc k))
+      go true y f more =
+          let here : segment_row segs k ≡ r = ap (row_in r) (rw y at f) in
+          let name : name_at segs k ≡ n = unfold name_at in same_eq _ _ y in
+          rw (named_more k true y, ← here) (rw name at (w.number k (omega arith)))
+      go false y f more = rw (named_more k false y, add-zero) (more (rw y at f))
 
-  pub looking_more : b ≡ false → Looking segs n k (j - 1)
-  looking_more e = record { high = omega (arith, g.high); none = last_step (sym q ∙ e) }
+  -- there is none
+  pub not_found : (k : ℕ) → k ≤ length segs → find (named_so n) (reverse (take k segs)) ≡ None → count n (names segs 0 k) ≡ 0
+  unfolding names list_of count
+  not_found zero h e = refl
+  not_found (suc k) h e = go (named_so n (segment_row segs k)) refl (rw last_first at e) (not_found k (omega arith))
+    where
+      go : (b : Bool) → named_so n (segment_row segs k) ≡ b → find (named_so n) (segment_row segs k ∷ reverse (take k segs)) ≡ None
+          → (find (named_so n) (reverse (take k segs)) ≡ None → count n (names segs 0 k) ≡ 0) → count n (names segs 0 (suc k)) ≡ 0
+      go true y f more = clash (ap is_some (rw y at f))
+      go false y f more = named_more k false y ∙ rw (add-zero, more (rw y at f))
 
-  pub looking_found : Numbered segs k → b ≡ true → cell segs (j - 1) 5 + 1 ≡ count n (names segs 0 k) + 1
-  looking_found w e =
-      let same_name : name_at segs (j - 1) ≡ n = same_eq (name_at segs (j - 1)) n (sym q ∙ e) in
-      let number : cell segs (j - 1) 5 ≡ count n (names segs 0 (j - 1)) + 1 = rw same_name at (w.number (j - 1) (omega (arith, g.high))) in
-      omega (arith, number, names_split segs n k (j - 1) (omega (arith, g.high)), last_step (sym q ∙ e))
+module _ (segs : List HeldSegment) (n : Text) where
+  pub last_found : {o : Option HeldSegment} → o ≡ find (named_so n) (reverse segs) → Numbered segs (length segs) → {r : HeldSegment} → o ≡ Some r → r.label.occurrence ≡ count n (names segs 0 (length segs))
+  last_found e w {r} f = found segs n (length segs) (omega arith) w r (rw (take_all (length segs) segs (omega arith)) (sym e ∙ f))
 
-pub looking_none : {segs : List ℕ} {n : Text} {k j : ℕ} → Looking segs n k j → j ≡ 0 → 1 ≡ count n (names segs 0 k) + 1
-looking_none {segs} {n} {k} {j} g e =
-    let z : k - 0 ≡ k = omega arith in
-    let none : count n (names segs 0 k) ≡ 0 = rw (e, z) at g.none in
-    omega (arith, none)
+  pub none_found : {o : Option HeldSegment} → o ≡ find (named_so n) (reverse segs) → o ≡ None → count n (names segs 0 (length segs)) ≡ 0
+  none_found e f = not_found segs n (length segs) (omega arith) (rw (take_all (length segs) segs (omega arith)) (sym e ∙ f))
 
--- an occurrence is at most one more than the segments before it
-pub number_most : {segs : List ℕ} {k : ℕ} → Numbered segs k → (j : ℕ) → j < k → cell segs j 5 ≤ j + 1
-unfolding names
-number_most {segs} {k} w j h =
-    omega (arith, w.number j h, count_most (name_at segs j) (list_of (name_at segs) 0 j), list_length (name_at segs) 0 j)
+  pub names_most : count n (names segs 0 (length segs)) ≤ length segs
+  unfolding names
+  names_most = omega (arith, count_most n (list_of (name_at segs) 0 (length segs)), list_length (name_at segs) 0 (length segs))
+
+-- what holds of the first k rows
+module _ (segs : List HeldSegment) (k : ℕ) (h : k ≤ length segs) where
+  front_name : (j : ℕ) → j < k → name_at (take k segs) j ≡ name_at segs j
+  unfolding name_at
+  front_name j l = rw (get_or-take k segs j NO_SEGMENT l)
+
+  front_names : (j : ℕ) → j ≤ k → names (take k segs) 0 j ≡ names segs 0 j
+  unfolding names
+  front_names j l = list_ext (name_at (take k segs)) (name_at segs) 0 j (λ i a b. front_name i (omega arith))
+
+  pub names_front : names (take k segs) 0 (length (take k segs)) ≡ names segs 0 k
+  names_front = rw (length-take-le k segs h) (front_names k (omega arith))
+
+  pub numbered_front : Numbered segs k → Numbered (take k segs) (length (take k segs))
+  numbered_front w = rw (length-take-le k segs h) (record {
+    number = λ j l. rw (get_or-take k segs j NO_SEGMENT l, front_name j l, front_names j (omega arith)) (w.number j l);
+  })

@@ -1,20 +1,23 @@
 // Reading a message: its segments and leaves, and what refuses it.
-ghost use Rattle.std.specs.Prelude.{◌≡◌, true, false, [], ◌∷◌, ◌+◌, ◌*◌, ◌≤◌, ◌<◌, ◌==◌, length, take, drop};
-ghost use Rattle.std.specs.List.{position_or_len};
+ghost use Rattle.std.specs.Prelude.{◌≡◌, true, false, [], ◌+◌, ◌≤◌, ◌<◌, ◌==◌, length, take, drop, reverse};
+ghost use Rattle.std.specs.List.{position_or_len, find};
 ghost use Rattle.text.specs.Text.{same};
 ghost use Rattle.message_model.specs.Message.{is_header_name, is_name_byte, is_name, is_named, separators_of, count, at_field, leaves_behind, segment_lines, message_fault, message_of};
-ghost use Rattle.er7_table.specs.Table.{name_at};
+ghost use Rattle.er7_table.specs.Table.{name_of};
 ghost use Rattle.er7_table.specs.Filling.{LeafRoom, LeavesRead};
 ghost use Rattle.er7_message.specs.Parsed.{ParsedAs};
 ghost use Rattle.er7_message.specs.Inner.{line, LineEnd, names, Numbered, SegmentRead, Reading, HeaderEnd, fault_by, message_by, lines_fault, lines_message, NothingRead};
 ghost use Rattle.refusal.specs.Limits.{LEAVES_MAX, SEGMENTS_MAX};
 
 use super::separators::{is_header, separators_of};
+use er7::message::Label;
 use er7::separators::Separators;
-use er7_table::table::{at_field, is_header_name, next, put_leaf, put_segment, read_leaves};
+use er7_table::table::{
+    Leaf, SEGMENT_ROWS, Segment, at_field, is_header_name, label_of, next, put_segment, read_leaves,
+};
 use refusal::Refusal;
 use refusal::input::{Input, no_foreign};
-use refusal::limits::{INPUT_MAX, LEAVES_MAX, SEGMENTS_MAX};
+use refusal::limits::{INPUT_MAX, SEGMENTS_MAX};
 
 // A message that was read: its delimiters, how many segments and leaves stand in the tables, and whether its last byte is a CR.
 #[derive(Clone, Copy)]
@@ -64,27 +67,33 @@ fn is_named(s: Separators, line: &[u8]) -> bool
     line.len() >= 3 && is_name(&line[..3]) && (line.len() == 3 || line[3] == s.field)
 }
 
-// Whether segment k has the name a b c.
-fn has_name(segs: &[usize; 2056], k: usize, a: usize, b: usize, c: usize) -> bool
-    requires { k * 8 + 8 ≤ 2056 }
-    ensures { result ≡ same (name_at segs.now k) (a ∷ b ∷ c ∷ []) }
+// Whether a line begins with the name of the label.
+fn has_name(label: Label, line: &[u8]) -> bool
+    ensures { result ≡ same (name_of label) (take 3 line.now) }
 {
-    let at = k * 8;
-    (segs[at + 2] == a) & ((segs[at + 3] == b) & (segs[at + 4] == c))
+    line.starts_with(&[label.a, label.b, label.c])
 }
 
-// The occurrence of a segment with the name a b c behind k segments: one more than that of the last of this name.
-fn occurrence(segs: &[usize; 2056], k: usize, a: usize, b: usize, c: usize) -> usize
-    requires { (k ≤ SEGMENTS_MAX) × Numbered segs.now k }
-    ensures { result ≡ count (a ∷ b ∷ c ∷ []) (names segs.now 0 k) + 1 }
+// The last of the segments that has the name at the front of a line.
+fn last_named(segments: &[Segment], line: &[u8]) -> Option<Segment>
+    ensures { result ≡ find (λ s. same (name_of s.label) (take 3 line.now)) (reverse segments.now) }
 {
-    for j in (0..k).rev() {
-        if has_name(segs, j, a, b, c) {
-            let at = j * 8;
-            return segs[at + 5] + 1;
-        }
+    segments
+        .iter()
+        .rev()
+        .copied()
+        .find(|row| has_name(row.label, line))
+}
+
+// The occurrence of a line with a name behind the segments before it: one more than that of the last segment of this name.
+fn occurrence(before: &[Segment], line: &[u8]) -> usize
+    requires { (length before.now ≤ SEGMENTS_MAX) × Numbered before.now (length before.now) }
+    ensures { result ≡ count (take 3 line.now) (names before.now 0 (length before.now)) + 1 }
+{
+    match last_named(before, line) {
+        Some(last) => last.label.occurrence + 1,
+        None => 1,
     }
-    1
 }
 
 // Reads the leaves of what stands between the indices from and end, behind a name or MSH-2, into the rows from n on; field is the field before them.
@@ -96,16 +105,16 @@ fn read_behind(
     s: Separators,
     field: usize,
     n: usize,
-    cells: &mut [usize],
+    leaves: &mut [Leaf],
 ) -> Result<usize, Refusal>
-    requires { (1 ≤ from) × (field ≤ from) × (from ≤ end) × (end ≤ length text.now) × (n ≤ LEAVES_MAX) × (n < from) × LeafRoom cells.old (length text.now) }
-    ensures { LeavesRead (leaves_behind s (at_field field) (drop from (take end text.now))) text.now end n cells.old cells.new result }
+    requires { (1 ≤ from) × (field ≤ from) × (from ≤ end) × (end ≤ length text.now) × (n ≤ LEAVES_MAX) × (n < from) × LeafRoom leaves.old (length text.now) }
+    ensures { LeavesRead (leaves_behind s (at_field field) (drop from (take end text.now))) text.now end n leaves.old leaves.new result }
 {
     if from == end {
         return Ok(n);
     }
     let p = next(s, text[from], at_field(field));
-    read_leaves(&text[..end], from + 1, s, p, n, cells)
+    read_leaves(&text[..end], from + 1, s, p, n, leaves)
 }
 
 // Reads the line from index i to index e, which has a name and is no header, as segment k behind n leaves.
@@ -117,22 +126,21 @@ fn read_segment(
     s: Separators,
     k: usize,
     n: usize,
-    segs: &mut [usize; 2056],
-    cells: &mut [usize],
+    segments: &mut [Segment; SEGMENT_ROWS],
+    leaves: &mut [Leaf],
 ) -> Result<usize, Refusal>
-    requires { (i + 3 ≤ e) × (e ≤ length text.now) × (k ≤ SEGMENTS_MAX) × (n ≤ LEAVES_MAX) × (n ≤ i) × LeafRoom cells.old (length text.now) × Numbered segs.old k × (is_header_name (take 3 (line text.now i e)) ≡ false) }
-    ensures { SegmentRead s text.now (line text.now i e) e k n segs.old cells.old segs.new cells.new result }
+    requires { (i + 3 ≤ e) × (e ≤ length text.now) × (k ≤ SEGMENTS_MAX) × (n ≤ LEAVES_MAX) × (n ≤ i) × LeafRoom leaves.old (length text.now) × Numbered segments.old k × (is_header_name (take 3 (line text.now i e)) ≡ false) }
+    ensures { SegmentRead s text.now (line text.now i e) e k n segments.old leaves.old segments.new leaves.new result }
 {
     if k == SEGMENTS_MAX {
         return Err(Refusal::TooMany);
     }
-    let m = read_behind(text, i + 3, e, s, 0, n, cells)?;
-    let a = text[i] as usize;
-    let b = text[i + 1] as usize;
-    let c = text[i + 2] as usize;
-    let number = occurrence(segs, k, a, b, c);
-    put_segment(segs, k, n, a, b, c, number, m);
-    Ok(m)
+    let end = read_behind(text, i + 3, e, s, 0, n, leaves)?;
+    let line = &text[i..e];
+    let number = occurrence(&segments[..k], line);
+    let label = label_of(line, number);
+    put_segment(segments, k, Segment { first: n, label }, end);
+    Ok(end)
 }
 
 // Reads the first line, which ends at index e and names the delimiters s, as segment 0.
@@ -141,19 +149,27 @@ fn read_header(
     text: &[u8],
     e: usize,
     s: Separators,
-    segs: &mut [usize; 2056],
-    cells: &mut [usize],
+    segments: &mut [Segment; SEGMENT_ROWS],
+    leaves: &mut [Leaf],
 ) -> Result<usize, Refusal>
-    requires { (8 ≤ e) × (e ≤ length text.now) × (s ≡ separators_of (line text.now 0 e)) × LeafRoom cells.old (length text.now) × (is_header_name (take 3 (line text.now 0 e)) ≡ true) }
-    ensures { SegmentRead s text.now (line text.now 0 e) e 0 0 segs.old cells.old segs.new cells.new result }
+    requires { (8 ≤ e) × (e ≤ length text.now) × (s ≡ separators_of (line text.now 0 e)) × LeafRoom leaves.old (length text.now) × (is_header_name (take 3 (line text.now 0 e)) ≡ true) }
+    ensures { SegmentRead s text.now (line text.now 0 e) e 0 0 segments.old leaves.old segments.new leaves.new result }
 {
-    put_leaf(cells, 0, at_field(1), 3, 1);
-    put_leaf(cells, 1, at_field(2), 4, 4);
-    let n = read_behind(text, 8, e, s, 2, 2, cells)?;
-    let a = text[0] as usize;
-    let b = text[1] as usize;
-    let c = text[2] as usize;
-    put_segment(segs, 0, 0, a, b, c, 1, n);
+    leaves[0] = Leaf {
+        start: 3,
+        len: 1,
+        gone: false,
+        place: at_field(1),
+    };
+    leaves[1] = Leaf {
+        start: 4,
+        len: 4,
+        gone: false,
+        place: at_field(2),
+    };
+    let n = read_behind(text, 8, e, s, 2, 2, leaves)?;
+    let label = label_of(&text[..e], 1);
+    put_segment(segments, 0, Segment { first: 0, label }, n);
     Ok(n)
 }
 
@@ -164,11 +180,11 @@ fn read_rest(
     s: Separators,
     last: bool,
     n0: usize,
-    segs: &mut [usize; 2056],
-    cells: &mut [usize],
+    segments: &mut [Segment; SEGMENT_ROWS],
+    leaves: &mut [Leaf],
 ) -> Result<Layout, Refusal>
-    requires { (from ≤ length text.now) × (n0 ≤ from) × Reading s text.now segs.old cells.old 1 n0 (segment_lines [] (drop from text.now)) }
-    ensures { ParsedAs text.now (fault_by s text.now) (message_by s last text.now) segs.new cells.new result }
+    requires { (from ≤ length text.now) × (n0 ≤ from) × Reading s text.now segments.old leaves.old 1 n0 (segment_lines [] (drop from text.now)) }
+    ensures { ParsedAs text.now (fault_by s text.now) (message_by s last text.now) segments.new leaves.new result }
 {
     let mut i = from;
     let mut k = 1;
@@ -179,7 +195,7 @@ fn read_rest(
         if !is_named(s, &text[i..e]) {
             return Err(Refusal::BadSegment);
         }
-        n = read_segment(text, i, e, s, k, n, segs, cells)?;
+        n = read_segment(text, i, e, s, k, n, segments, leaves)?;
         k += 1;
         if e == text.len() {
             return Ok(Layout {
@@ -199,13 +215,13 @@ fn read_lines(
     e: usize,
     s: Separators,
     last: bool,
-    segs: &mut [usize; 2056],
-    cells: &mut [usize],
+    segments: &mut [Segment; SEGMENT_ROWS],
+    leaves: &mut [Leaf],
 ) -> Result<Layout, Refusal>
-    requires { HeaderEnd s text.now e × LeafRoom cells.old (length text.now) }
-    ensures { ParsedAs text.now (fault_by s text.now) (message_by s last text.now) segs.new cells.new result }
+    requires { HeaderEnd s text.now e × LeafRoom leaves.old (length text.now) }
+    ensures { ParsedAs text.now (fault_by s text.now) (message_by s last text.now) segments.new leaves.new result }
 {
-    let n = read_header(text, e, s, segs, cells)?;
+    let n = read_header(text, e, s, segments, leaves)?;
     if e == text.len() {
         return Ok(Layout {
             separators: s,
@@ -214,18 +230,18 @@ fn read_lines(
             last_cr: last,
         });
     }
-    read_rest(text, e + 1, s, last, n, segs, cells)
+    read_rest(text, e + 1, s, last, n, segments, leaves)
 }
 
 // Reads the lines of a text; last says whether a CR ends the last one.
 fn parse_lines(
     text: &[u8],
     last: bool,
-    segs: &mut [usize; 2056],
-    cells: &mut [usize],
+    segments: &mut [Segment; SEGMENT_ROWS],
+    leaves: &mut [Leaf],
 ) -> Result<Layout, Refusal>
-    requires { LeafRoom cells.old (length text.now) }
-    ensures { ParsedAs text.now (lines_fault text.now) (lines_message last text.now) segs.new cells.new result }
+    requires { LeafRoom leaves.old (length text.now) }
+    ensures { ParsedAs text.now (lines_fault text.now) (lines_message last text.now) segments.new leaves.new result }
 {
     let e = line_end(text, 0);
     let header = &text[..e];
@@ -233,14 +249,14 @@ fn parse_lines(
         return Err(Refusal::BadHeader);
     }
     let s = separators_of(header);
-    read_lines(text, e, s, last, segs, cells)
+    read_lines(text, e, s, last, segments, leaves)
 }
 
 // Reads a message of no bytes: it has no segments, hence no leaves and no delimiters.
-fn read_nothing(segs: &mut [usize; 2056]) -> Layout
-    ensures { NothingRead segs.new result }
+fn read_nothing(segments: &mut [Segment; SEGMENT_ROWS]) -> Layout
+    ensures { NothingRead segments.new result }
 {
-    segs[1] = 0;
+    segments[0].first = 0;
     let none = Separators {
         field: 0,
         component: 0,
@@ -257,9 +273,13 @@ fn read_nothing(segs: &mut [usize; 2056]) -> Layout
 }
 
 // Reads a message into the two tables, or says what refuses it.
-pub fn parse(text: &[u8], segs: &mut [usize; 2056], cells: &mut [usize]) -> Result<Layout, Refusal>
-    requires { LeafRoom cells.old (length text.now) }
-    ensures { ParsedAs text.now (message_fault text.now) (message_of text.now) segs.new cells.new result }
+pub fn parse(
+    text: &[u8],
+    segments: &mut [Segment; SEGMENT_ROWS],
+    leaves: &mut [Leaf],
+) -> Result<Layout, Refusal>
+    requires { LeafRoom leaves.old (length text.now) }
+    ensures { ParsedAs text.now (message_fault text.now) (message_of text.now) segments.new leaves.new result }
 {
     if INPUT_MAX < text.len() {
         return Err(Refusal::TooLong);
@@ -268,10 +288,10 @@ pub fn parse(text: &[u8], segs: &mut [usize; 2056], cells: &mut [usize]) -> Resu
         return Err(Refusal::ForeignByte);
     }
     if text.is_empty() {
-        return Ok(read_nothing(segs));
+        return Ok(read_nothing(segments));
     }
     match text.strip_suffix(b"\r") {
-        Some(lines) => parse_lines(lines, true, segs, cells),
-        None => parse_lines(text, false, segs, cells),
+        Some(lines) => parse_lines(lines, true, segments, leaves),
+        None => parse_lines(text, false, segments, leaves),
     }
 }

@@ -1,11 +1,12 @@
 // The header of a message, and the delimiters that it names.
-ghost use Rattle.std.specs.Prelude.{◌≡◌, [], ◌∷◌, ◌≤◌, length};
+ghost use Rattle.std.specs.Prelude.{◌≡◌, ◌≤◌, length};
 ghost use Rattle.message_model.specs.Message.{may_delimit, may_delimit_all, is_header, separators_of};
 
 use er7::separators::Separators;
 use text::bytes::{Class, is_in, same_bytes};
 
 // Whether b may delimit.
+#[tactic(auto, unfolding(message_model::specs::Message::may_delimit, text::specs::Text::is_in))]
 fn may_delimit(b: u8) -> bool
     ensures { result ≡ may_delimit b }
 {
@@ -39,6 +40,7 @@ pub fn is_header(line: &[u8]) -> bool
 }
 
 // The delimiters that a header names.
+#[tactic(auto, unfolding(message_model::specs::Message::separators_of))]
 pub fn separators_of(line: &[u8]) -> Separators
     requires { 8 ≤ length line.now }
     ensures { result ≡ separators_of line.now }

@@ -1,6 +1,6 @@
 pub mod Laws
 pub mod PrintBack
 pub mod Slots
-pub mod Packing
 pub mod Sums
+pub mod Packing
 pub mod Room

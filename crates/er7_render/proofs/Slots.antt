@@ -1,140 +1,132 @@
 -- Laws of the texts in the store. Assumes nothing.
-use mathlib.Core.Path.{◌≡◌, refl, ◌∙◌}
+use Rattle.std.proofs.Common.{◌≡◌, refl, ap, ◌∙◌, Bool, true, false, cond, List, ℕ, ◌+◌, ◌≤◌, ◌<◌, length, set, arith, length-set, get_or-set_same, get_or-set_other}
+use Rattle.std.proofs.Math.Option.{none, some}
 use mathlib.Core.Logic.{dite}
-use mathlib.Core.Bool.{Bool, true, false, cond}
-use mathlib.Core.List.{List}
-use mathlib.Core.Option.{none, some}
-use Prim.Native.Nat.{ℕ, ◌+◌, ◌*◌, ◌≤◌, ◌<◌}
-use native.Mathlib.Omega.{arith}
 use native.Mathlib.Decide.{ℕ_discrete}
-use borrow.Author.Tests.{eqb-true}
-use lib.Dec.{eqb}
-use lib.ListN.{length, set, length-set}
-use lib.Seq.{get_or-set_same, get_or-set_other}
 use Rattle.text.specs.Text.{Text, part, SameTo}
 use Rattle.text.proofs.Kept.{part_same}
-use Rattle.er7_table.specs.Table.{cell, place_at, stored_text, Good}
-use Rattle.er7_table.proofs.Laws.{leaf_kept}
+use Rattle.er7_table.specs.declared.table.Leaf.{Leaf as HeldLeaf}
+use Rattle.er7_table.specs.declared.table.TheConstants.{NO_LEAF}
+use Rattle.er7_table.specs.Table.{leaf_row, place_at, stored_text, Good}
+use Rattle.er7_table.proofs.Laws.{text_kept, leaf_kept}
 use Rattle.er7_render.specs.Stored.{TextSet, Vanished}
-
--- ---- one column of a row
-
--- column k of row i becomes v
-module _ (cells : List ℕ) (i k v : ℕ) (few : k < 8) where
-  column_here : i * 8 + 8 ≤ length cells → cell (set cells (i * 8 + k) v) i k ≡ v
-  unfolding cell
-  column_here h = get_or-set_same cells (i * 8 + k) v 0 (omega arith)
-
-  column_row : (j l : ℕ) → l < 8 → (j ≡ i → ⊥) → cell (set cells (i * 8 + k) v) j l ≡ cell cells j l
-  unfolding cell
-  column_row j l h ne = get_or-set_other cells (i * 8 + k) (j * 8 + l) v 0 (λ e. ne (omega arith))
-
-  column_other : (j l : ℕ) → l < 8 → (l ≡ k → ⊥) → cell (set cells (i * 8 + k) v) j l ≡ cell cells j l
-  unfolding cell
-  column_other j l h ne = get_or-set_other cells (i * 8 + k) (j * 8 + l) v 0 (λ e. ne (omega arith))
-
-text_kept : (cells cells' : List ℕ) (store : Text) (i : ℕ) → ((k : ℕ) → k < 8 → cell cells' i k ≡ cell cells i k) → stored_text cells' store i ≡ stored_text cells store i
-unfolding stored_text
-text_kept cells cells' store i h = rw (h 1 (omega arith), h 2 (omega arith), h 3 (omega arith))
-
-place_columns : (cells cells' : List ℕ) (i : ℕ) → ((k : ℕ) → k < 8 → 3 < k → cell cells' i k ≡ cell cells i k) → place_at cells' i ≡ place_at cells i
-unfolding place_at
-place_columns cells cells' i h = rw (h 4 (omega arith) (omega arith), h 5 (omega arith) (omega arith), h 6 (omega arith) (omega arith), h 7 (omega arith) (omega arith))
 
 -- ---- `set_text`
 
-module _ (cells : List ℕ) (i start n : ℕ) (room : i * 8 + 8 ≤ length cells) where
-  abbrev once : List ℕ
-  once = set cells (i * 8 + 1) start
+module _ (held : List HeldLeaf) (i start n : ℕ) (room : i < length held) where
+  abbrev start_set : HeldLeaf
+  start_set = record { start = start; len = (leaf_row held i).len; gone = (leaf_row held i).gone; place = (leaf_row held i).place }
 
-  abbrev twice : List ℕ
-  twice = set once (i * 8 + 2) n
+  abbrev once : List HeldLeaf
+  once = set held i start_set
 
-  row_kept : (j k : ℕ) → k < 8 → (j ≡ i → ⊥) → cell twice j k ≡ cell cells j k
-  row_kept j k h ne = column_row once i 2 n (omega arith) j k h ne ∙ column_row cells i 1 start (omega arith) j k h ne
+  abbrev both_set : HeldLeaf
+  both_set = record { start = (leaf_row once i).start; len = n; gone = (leaf_row once i).gone; place = (leaf_row once i).place }
 
-  column_kept : (j k : ℕ) → k < 8 → 2 < k → cell twice j k ≡ cell cells j k
-  column_kept j k h l =
-      column_other once i 2 n (omega arith) j k h (λ e. absurd (omega arith)) ∙ column_other cells i 1 start (omega arith) j k h (λ e. absurd (omega arith))
+  abbrev twice : List HeldLeaf
+  twice = set once i both_set
 
-  set_begins : cell twice i 1 ≡ start
-  set_begins = column_other once i 2 n (omega arith) i 1 (omega arith) (λ e. absurd (omega arith)) ∙ column_here cells i 1 start (omega arith) room
+  once_here : leaf_row once i ≡ start_set
+  once_here = get_or-set_same held i start_set NO_LEAF room
 
-  set_long : cell twice i 2 ≡ n
-  set_long = column_here once i 2 n (omega arith) (rw (length-set cells (i * 8 + 1) start) room)
+  twice_here : leaf_row twice i ≡ record { start = start; len = n; gone = (leaf_row held i).gone; place = (leaf_row held i).place }
+  twice_here = get_or-set_same once i both_set NO_LEAF (rw length-set room) ∙ rw once_here
 
-  set_here : (store : Text) → cell cells i 3 ≡ 0 → stored_text twice store i ≡ some (part store start n)
+  twice_other : (j : ℕ) → (j ≡ i → ⊥) → leaf_row twice j ≡ leaf_row held j
+  twice_other j ne = get_or-set_other once i j both_set NO_LEAF ne ∙ get_or-set_other held i j start_set NO_LEAF ne
+
+  set_gone_kept : (j : ℕ) → (leaf_row twice j).gone ≡ (leaf_row held j).gone
+  set_gone_kept j = dite (ℕ_discrete j i) (λ e. rw e (ap (λ (x : HeldLeaf). x.gone) twice_here)) (λ ne. ap (λ (x : HeldLeaf). x.gone) (twice_other j ne))
+
+  set_place_kept : (j : ℕ) → place_at twice j ≡ place_at held j
+  unfolding place_at
+  set_place_kept j = dite (ℕ_discrete j i) (λ e. rw e (ap (λ (x : HeldLeaf). x.place) twice_here)) (λ ne. ap (λ (x : HeldLeaf). x.place) (twice_other j ne))
+
+  set_here : (store : Text) → (leaf_row held i).gone ≡ false → stored_text twice store i ≡ some (part store start n)
   unfolding stored_text
-  set_here store e = rw (set_begins, set_long, column_kept i 3 (omega arith) (omega arith), e)
+  set_here store e = rw (twice_here, e)
 
-  pub text_set : TextSet cells i start n (set (set cells (i * 8 + 1) start) (i * 8 + 2) n)
+  pub text_set : TextSet held i start n (set (set held i start_set) i both_set)
   text_set = record {
-    rows = length-set once (i * 8 + 2) n ∙ length-set cells (i * 8 + 1) start;
-    begins = set_begins;
-    long = set_long;
-    gone = λ j. column_kept j 3 (omega arith) (omega arith);
+    rows = length-set once i both_set ∙ length-set held i start_set;
+    begins = ap (λ (x : HeldLeaf). x.start) twice_here;
+    long = ap (λ (x : HeldLeaf). x.len) twice_here;
+    gone = set_gone_kept;
     here = set_here;
-    place = λ j. place_columns cells twice j (λ k h l. column_kept j k h (omega arith));
-    other = row_kept;
-    other_text = λ store j ne. text_kept cells twice store j (λ k h. row_kept j k h ne);
-    other_leaf = λ named store j ne. leaf_kept named cells twice store j (λ k h. row_kept j k h ne);
+    place = set_place_kept;
+    other = twice_other;
+    other_text = λ store j ne. text_kept held twice store j (twice_other j ne);
+    other_leaf = λ named store j ne. leaf_kept held twice named store j (twice_other j ne);
   }
 
 -- ---- `set_gone`
 
-module _ (cells : List ℕ) (i : ℕ) (room : i * 8 + 8 ≤ length cells) where
-  gone_here : (store : Text) → stored_text (set cells (i * 8 + 3) 1) store i ≡ none
-  unfolding stored_text
-  gone_here store = rw (column_here cells i 3 1 (omega arith) room)
+module _ (held : List HeldLeaf) (i : ℕ) (room : i < length held) where
+  abbrev gone_set : HeldLeaf
+  gone_set = record { start = (leaf_row held i).start; len = (leaf_row held i).len; gone = true; place = (leaf_row held i).place }
 
-  pub vanished : Vanished cells i (set cells (i * 8 + 3) 1)
-  vanished =
-      let other = column_row cells i 3 1 (omega arith) in
-      let column = column_other cells i 3 1 (omega arith) in
-      record {
-        rows = length-set cells (i * 8 + 3) 1;
-        gone = column_here cells i 3 1 (omega arith) room;
-        begins = λ j. column j 1 (omega arith) (λ e. absurd (omega arith));
-        long = λ j. column j 2 (omega arith) (λ e. absurd (omega arith));
-        here = gone_here;
-        place = λ j. place_columns cells (set cells (i * 8 + 3) 1) j (λ k h l. column j k h (λ e. absurd (omega arith)));
-        other = other;
-        other_text = λ store j ne. text_kept cells (set cells (i * 8 + 3) 1) store j (λ k h. other j k h ne);
-        other_leaf = λ named store j ne. leaf_kept named cells (set cells (i * 8 + 3) 1) store j (λ k h. other j k h ne);
-      }
+  abbrev without : List HeldLeaf
+  without = set held i gone_set
+
+  gone_here : leaf_row without i ≡ gone_set
+  gone_here = get_or-set_same held i gone_set NO_LEAF room
+
+  gone_other : (j : ℕ) → (j ≡ i → ⊥) → leaf_row without j ≡ leaf_row held j
+  gone_other j ne = get_or-set_other held i j gone_set NO_LEAF ne
+
+  no_text : (store : Text) → stored_text without store i ≡ none
+  unfolding stored_text
+  no_text store = rw gone_here
+
+  gone_place_kept : (j : ℕ) → place_at without j ≡ place_at held j
+  unfolding place_at
+  gone_place_kept j = dite (ℕ_discrete j i) (λ e. rw e (ap (λ (x : HeldLeaf). x.place) gone_here)) (λ ne. ap (λ (x : HeldLeaf). x.place) (gone_other j ne))
+
+  pub vanished : Vanished held i (set held i gone_set)
+  vanished = record {
+    rows = length-set held i gone_set;
+    gone = ap (λ (x : HeldLeaf). x.gone) gone_here;
+    begins = λ j. dite (ℕ_discrete j i) (λ e. rw e (ap (λ (x : HeldLeaf). x.start) gone_here)) (λ ne. ap (λ (x : HeldLeaf). x.start) (gone_other j ne));
+    long = λ j. dite (ℕ_discrete j i) (λ e. rw e (ap (λ (x : HeldLeaf). x.len) gone_here)) (λ ne. ap (λ (x : HeldLeaf). x.len) (gone_other j ne));
+    here = no_text;
+    place = gone_place_kept;
+    other = gone_other;
+    other_text = λ store j ne. text_kept held without store j (gone_other j ne);
+    other_leaf = λ named store j ne. leaf_kept held without named store j (gone_other j ne);
+  }
 
 -- ---- the texts that end in the store
 
 -- a leaf that has a text has not vanished
-pub live : (cells : List ℕ) (store : Text) (i : ℕ) {t : Text} → stored_text cells store i ≡ some t → cell cells i 3 ≡ 0
+pub live : (held : List HeldLeaf) (store : Text) (i : ℕ) {t : Text} → stored_text held store i ≡ some t → (leaf_row held i).gone ≡ false
 unfolding stored_text
-live cells store i {t} e = go (eqb (cell cells i 3) 0) refl e
+live held store i {t} e = go (leaf_row held i).gone refl e
   where
-    go : (b : Bool) → eqb (cell cells i 3) 0 ≡ b → cond b (some (part store (cell cells i 1) (cell cells i 2))) none ≡ some t → cell cells i 3 ≡ 0
-    go true q e = eqb-true (cell cells i 3) 0 q
-    go false q e = let z : ◌≡◌ {A = ℕ} 0 1 = cc in absurd (omega arith)
+    go : (b : Bool) → (leaf_row held i).gone ≡ b → cond b none (some (part store (leaf_row held i).start (leaf_row held i).len)) ≡ some t → (leaf_row held i).gone ≡ false
+    go true q e = let z : ◌≡◌ {A = ℕ} 0 1 = cc in absurd (omega arith)
+    go false q e = q
 
-pub good_more : {cells : List ℕ} {store : Text} {n used : ℕ} → Good cells store n used → {used' : ℕ} → used ≤ used' → used' ≤ length store → Good cells store n used'
+pub good_more : {held : List HeldLeaf} {store : Text} {n used : ℕ} → Good held store n used → {used' : ℕ} → used ≤ used' → used' ≤ length store → Good held store n used'
 good_more g a b = record { rows = g.rows; room = b; ends = λ j h. omega (arith, g.ends j h) }
 
-module _ {cells : List ℕ} {store : Text} {n used : ℕ} (g : Good cells store n used) {i : ℕ} {cells' : List ℕ} where
-  pub set_good : {start len : ℕ} → TextSet cells i start len cells' → {used' : ℕ} → used ≤ used' → start + len ≤ used' → used' ≤ length store → Good cells' store n used'
+module _ {held : List HeldLeaf} {store : Text} {n used : ℕ} (g : Good held store n used) {i : ℕ} {held' : List HeldLeaf} where
+  pub set_good : {start len : ℕ} → TextSet held i start len held' → {used' : ℕ} → used ≤ used' → start + len ≤ used' → used' ≤ length store → Good held' store n used'
   set_good {start} {len} w {used'} a b c = record {
     rows = rw w.rows g.rows;
     room = c;
     ends = λ j h. dite (ℕ_discrete j i) (λ e. rw (e, w.begins, w.long) b)
-        (λ ne. rw (w.other j 1 (omega arith) ne, w.other j 2 (omega arith) ne) (omega (arith, g.ends j h)));
+        (λ ne. rw (w.other j ne) (omega (arith, g.ends j h)));
   }
 
-  pub gone_good : Vanished cells i cells' → Good cells' store n used
+  pub gone_good : Vanished held i held' → Good held' store n used
   gone_good w = record { rows = rw w.rows g.rows; room = g.room; ends = λ j h. rw (w.begins j, w.long j) (g.ends j h) }
 
 -- ---- where what stands behind the texts changed
 
-module _ {cells : List ℕ} {store store' : Text} {n used : ℕ} (g : Good cells store n used) (k : SameTo used store store') where
-  pub kept_text : (j : ℕ) → j < n → stored_text cells store' j ≡ stored_text cells store j
+module _ {held : List HeldLeaf} {store store' : Text} {n used : ℕ} (g : Good held store n used) (k : SameTo used store store') where
+  pub kept_text : (j : ℕ) → j < n → stored_text held store' j ≡ stored_text held store j
   unfolding stored_text
-  kept_text j h = rw (part_same k (cell cells j 1) (cell cells j 2) (g.ends j h))
+  kept_text j h = rw (part_same k (leaf_row held j).start (leaf_row held j).len (g.ends j h))
 
-  pub kept_good : Good cells store' n used
+  pub kept_good : Good held store' n used
   kept_good = record { rows = g.rows; room = rw k.long g.room; ends = g.ends }

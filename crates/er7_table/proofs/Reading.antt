@@ -1,54 +1,29 @@
 -- Reading a text's leaves. Assumes nothing.
-use mathlib.Core.Path.{◌≡◌, refl, sym, ap, ap₂, ◌∙◌}
-use mathlib.Core.Bool.{Bool, true, false, not}
-use mathlib.Core.Logic.{dite}
-use mathlib.Core.Option.{some}
-use mathlib.Core.List.{List, [], ◌∷◌, ◌++◌, append-nil, append_assoc}
-use Prim.Native.Nat.{ℕ, suc, ◌+◌, ◌-◌, ◌≤◌, ◌<◌}
-use native.Mathlib.Decide.{ℕ_discrete}
-use native.Mathlib.Numerals.{one-add}
-use native.Mathlib.Omega.{arith}
-use borrow.Author.Tests.{eq-eqb, ne_eqb}
-use lib.Dec.{eqb}
-use lib.ListN.{length, take, drop, get_or, length-append, length-drop, drop_of_length-le}
+use Rattle.std.proofs.Common.{◌≡◌, refl, sym, ap, ap₂, ◌∙◌, Bool, true, false, not, List, [], ◌∷◌, ◌++◌, ℕ, suc, ◌+◌, ◌-◌, ◌≤◌, ◌<◌, length, take, drop, get_or, set, eqb, Ok, Err, arith, one-add, append-nil, append_assoc, length-append, length-drop, length-set, length-take-le, drop-drop, drop_of_length-le, get_or-drop, get_or-set_same, get_or-set_other}
 use Rattle.std.specs.List.{position_or_len}
+use Rattle.std.specs.declared.result.Result.{Result}
 use Rattle.std.proofs.lemmas.List.Sums.{prefix_len-le-length, passes_at_first}
-use lib.Seq.{append_snoc, drop-drop, get_or-drop, length-take-le}
+use Rattle.std.proofs.Math.Option.{some}
+use mathlib.Core.Logic.{dite}
+use native.Mathlib.Decide.{ℕ_discrete}
+use lib.Seq.{append_snoc}
 use Rattle.text.specs.Text.{Text, part}
 use Rattle.text.proofs.Kept.{part_take}
 use Rattle.text.proofs.Laws.{by_cond}
 use Rattle.text.proofs.Runs.{drop_step}
-use Rattle.er7.specs.declared.message.Place.{Place}
-use Rattle.er7.specs.declared.separators.Separators.{Separators}
-use Rattle.message_model.specs.Message.{Leaf, leaf, ends_leaf, next, leaves}
-use Rattle.er7_table.specs.Table.{cell, list_of, place_at, stored_text, leaf_at, leaves_from, Within}
-use Rattle.er7_table.specs.Filling.{LeafEnd, LeafPut, LeavesRead}
-use Rattle.er7_table.proofs.Laws.{list_snoc, list_ext, list_length, leaves_kept, place_kept}
 use Rattle.refusal.specs.Limits.{LEAVES_MAX}
 use Rattle.refusal.specs.declared.Refusal.{Refusal}
 use Rattle.refusal.specs.declared.Refusal.TheVariants.{TooMany}
-use Rattle.std.specs.declared.result.Result.{Result}
-use Rattle.std.specs.Prelude.{Ok, Err}
+use Rattle.er7.specs.declared.message.Place.{Place}
+use Rattle.er7.specs.declared.separators.Separators.{Separators}
+use Rattle.message_model.specs.Message.{Leaf, leaf, ends_leaf, next, leaves}
+use Rattle.er7_table.specs.declared.table.Leaf.{Leaf as HeldLeaf}
+use Rattle.er7_table.specs.declared.table.TheConstants.{NO_LEAF}
+use Rattle.er7_table.specs.Table.{list_of, leaf_row, place_at, stored_text, leaf_at, leaves_from, Within}
+use Rattle.er7_table.specs.Filling.{LeafEnd, LeafRoom, LeavesRead}
+use Rattle.er7_table.proofs.Laws.{list_snoc, list_ext, list_length, leaves_kept, place_kept}
 
--- ---- `next`, case by case
-module _ (s : Separators) (x : ℕ) (p : Place) where
-  pub next_field : x ≡ s.field → record { field = p.field + 1; repetition = 1; component = 1; subcomponent = 1 } ≡ next s x p
-  unfolding next
-  next_field e = rw (eq-eqb _ _ e)
-
-  pub next_repetition : (x ≡ s.field → ⊥) → x ≡ s.repetition → record { field = p.field; repetition = p.repetition + 1; component = 1; subcomponent = 1 } ≡ next s x p
-  unfolding next
-  next_repetition a e = rw (ne_eqb _ _ a, eq-eqb _ _ e)
-
-  pub next_component : (x ≡ s.field → ⊥) → (x ≡ s.repetition → ⊥) → x ≡ s.component
-      → record { field = p.field; repetition = p.repetition; component = p.component + 1; subcomponent = 1 } ≡ next s x p
-  unfolding next
-  next_component a b e = rw (ne_eqb _ _ a, ne_eqb _ _ b, eq-eqb _ _ e)
-
-  pub next_subcomponent : (x ≡ s.field → ⊥) → (x ≡ s.repetition → ⊥) → (x ≡ s.component → ⊥)
-      → record { field = p.field; repetition = p.repetition; component = p.component; subcomponent = p.subcomponent + 1 } ≡ next s x p
-  unfolding next
-  next_subcomponent a b c = rw (ne_eqb _ _ a, ne_eqb _ _ b, ne_eqb _ _ c)
+-- ---- the numbers of a place
 
 pub within_more : (p : Place) (i j : ℕ) → i ≤ j → Within p i → Within p j
 within_more p i j h u = record {
@@ -154,20 +129,20 @@ leaf_ends s t i n h e =
     }
 
 -- ---- the leaves from index `from` on, of which the rows n₀ to before n are read; the next one begins at index i and stands at p
-pub record Going (s : Separators) (t : Text) (from : ℕ) (p₀ : Place) (n₀ : ℕ) (cells₀ : List ℕ) (i n : ℕ) (p : Place) (cells : List ℕ) : Type 0 where
+pub record Going (s : Separators) (t : Text) (from : ℕ) (p₀ : Place) (n₀ : ℕ) (held₀ : List HeldLeaf) (i n : ℕ) (p : Place) (held : List HeldLeaf) : Type 0 where
   pub low : n₀ ≤ n
   pub high : n ≤ LEAVES_MAX
   pub inside : i ≤ length t
   pub ahead : n < i
   pub small : Within p i
-  pub whole : leaves s p₀ [] (drop from t) ≡ leaves_from (λ i. false) cells t n₀ (n - n₀) ++ leaves s p [] (drop i t)
-  pub ends : (j : ℕ) → n₀ ≤ j → j < n → cell cells j 1 + cell cells j 2 ≤ length t
-  pub within : (j : ℕ) → n₀ ≤ j → j < n → Within (place_at cells j) (length t)
-  pub before : (j k : ℕ) → k < 8 → j < n₀ → cell cells j k ≡ cell cells₀ j k
-  pub long : length cells ≡ length cells₀
+  pub whole : leaves s p₀ [] (drop from t) ≡ leaves_from (λ i. false) held t n₀ (n - n₀) ++ leaves s p [] (drop i t)
+  pub ends : (j : ℕ) → n₀ ≤ j → j < n → (leaf_row held j).start + (leaf_row held j).len ≤ length t
+  pub within : (j : ℕ) → n₀ ≤ j → j < n → Within (place_at held j) (length t)
+  pub before : (j : ℕ) → j < n₀ → leaf_row held j ≡ leaf_row held₀ j
+  pub long : length held ≡ length held₀
 
-module _ (s : Separators) (t : Text) (from : ℕ) (p₀ : Place) (n₀ : ℕ) (cells₀ : List ℕ) where
-  pub going_start : from ≤ length t → n₀ ≤ LEAVES_MAX → n₀ < from → Within p₀ from → Going s t from p₀ n₀ cells₀ from n₀ p₀ cells₀
+module _ (s : Separators) (t : Text) (from : ℕ) (p₀ : Place) (n₀ : ℕ) (held₀ : List HeldLeaf) where
+  pub going_start : from ≤ length t → n₀ ≤ LEAVES_MAX → n₀ < from → Within p₀ from → Going s t from p₀ n₀ held₀ from n₀ p₀ held₀
   unfolding leaves_from list_of
   going_start h k a u =
       let z : n₀ - n₀ ≡ 0 = omega arith in record {
@@ -179,12 +154,12 @@ module _ (s : Separators) (t : Text) (from : ℕ) (p₀ : Place) (n₀ : ℕ) (c
         whole = rw z;
         ends = λ j a b. absurd (omega arith);
         within = λ j a b. absurd (omega arith);
-        before = λ _ _ _ _. refl;
+        before = λ _ _. refl;
         long = refl;
       }
 
-module _ {s : Separators} {t : Text} {from : ℕ} {p₀ : Place} {n₀ : ℕ} {cells₀ : List ℕ} {i n : ℕ} {p : Place} {cells : List ℕ} (go : Going s t from p₀ n₀ cells₀ i n p cells) where
-  pub going_full : LEAVES_MAX ≤ n → LeavesRead (leaves s p₀ [] (drop from t)) t (length t) n₀ cells₀ cells (Err TooMany)
+module _ {s : Separators} {t : Text} {from : ℕ} {p₀ : Place} {n₀ : ℕ} {held₀ : List HeldLeaf} {i n : ℕ} {p : Place} {held : List HeldLeaf} (go : Going s t from p₀ n₀ held₀ i n p held) where
+  pub going_full : LEAVES_MAX ≤ n → LeavesRead (leaves s p₀ [] (drop from t)) t (length t) n₀ held₀ held (Err TooMany)
   unfolding leaves_from
   going_full e = record {
     fitted = tt;
@@ -194,40 +169,61 @@ module _ {s : Separators} {t : Text} {from : ℕ} {p₀ : Place} {n₀ : ℕ} {c
     before = go.before;
   }
 
-  module _ {e : ℕ} {cells' : List ℕ} (end : LeafEnd s t i e) (put : LeafPut cells n p i (e - i) cells') where
+  -- there is a row for the next leaf
+  pub going_room : LeafRoom held₀ (length t) → n < LEAVES_MAX → n < length held
+  going_room h m = rw go.long (h.room n m (omega (arith, go.ahead, go.inside)))
+
+  module _ {e : ℕ} (end : LeafEnd s t i e) (room : n < length held) where
+    -- the leaf that is read, and the table with it
+    abbrev read : HeldLeaf
+    read = record { start = i; len = e - i; gone = false; place = p }
+
+    abbrev held' : List HeldLeaf
+    held' = set held n read
+
+    here : leaf_row held' n ≡ read
+    here = get_or-set_same held n read NO_LEAF room
+
+    place_here : place_at held' n ≡ p
+    unfolding place_at
+    place_here = ap (λ (r : HeldLeaf). r.place) here
+
     -- a row that was read before
-    kept : (j k : ℕ) → k < 8 → j < n → cell cells' j k ≡ cell cells j k
-    kept j k h l = put.other j k h (λ q. absurd (omega arith))
+    kept : (j : ℕ) → j < n → leaf_row held' j ≡ leaf_row held j
+    kept j h = get_or-set_other held n j read NO_LEAF (λ q. absurd (omega arith))
 
     -- one row more
-    rows_more : leaves_from (λ i. false) cells' t n₀ (n + 1 - n₀) ≡ leaves_from (λ i. false) cells t n₀ (n - n₀) ++ leaf p false (some (part t i (e - i))) ∷ []
+    rows_more : leaves_from (λ i. false) held' t n₀ (n + 1 - n₀) ≡ leaves_from (λ i. false) held t n₀ (n - n₀) ++ leaf p false (some (part t i (e - i))) ∷ []
     rows_more =
         let z : n + 1 - n₀ ≡ suc (n - n₀) = omega (arith, go.low) in
         let y : n₀ + (n - n₀) ≡ n = omega (arith, go.low) in
         rw z (snoc (n - n₀)
-        ∙ ap₂ (λ (xs : List Leaf) (x : Leaf). xs ++ x ∷ []) (leaves_kept (λ i. false) cells cells' t n₀ (n - n₀) (λ j k h l. kept j k h (omega arith))) (rw y (put.here (λ i. false) t)))
+        ∙ ap₂ (λ (xs : List Leaf) (x : Leaf). xs ++ x ∷ []) (leaves_kept held held' (λ i. false) t n₀ (n - n₀) (λ j l. kept j (omega arith))) (rw y read_here))
       where
-        snoc : (m : ℕ) → leaves_from (λ i. false) cells' t n₀ (suc m) ≡ leaves_from (λ i. false) cells' t n₀ m ++ leaf_at (λ i. false) cells' t (n₀ + m) ∷ []
-        snoc m = unfold leaves_from in list_snoc (leaf_at (λ i. false) cells' t) n₀ m
+        snoc : (m : ℕ) → leaves_from (λ i. false) held' t n₀ (suc m) ≡ leaves_from (λ i. false) held' t n₀ m ++ leaf_at (λ i. false) held' t (n₀ + m) ∷ []
+        snoc m = unfold leaves_from in list_snoc (leaf_at (λ i. false) held' t) n₀ m
 
-    ends_more : (j : ℕ) → n₀ ≤ j → j < n + 1 → cell cells' j 1 + cell cells' j 2 ≤ length t
+        read_here : leaf_at (λ i. false) held' t n ≡ leaf p false (some (part t i (e - i)))
+        read_here = unfold leaf_at in unfold stored_text in rw (place_here, here)
+
+    ends_more : (j : ℕ) → n₀ ≤ j → j < n + 1 → (leaf_row held' j).start + (leaf_row held' j).len ≤ length t
     ends_more j a c = dite (ℕ_discrete j n)
-        (λ q. rw (q, put.begins, put.long) (omega (arith, end.low, end.high)))
-        (λ ne. rw (kept j 1 (omega arith) (omega arith), kept j 2 (omega arith) (omega arith)) (go.ends j a (omega arith)))
+        (λ q. rw (q, here) (omega (arith, end.low, end.high)))
+        (λ ne. rw (kept j (omega arith)) (go.ends j a (omega arith)))
 
-    within_rows : (j : ℕ) → n₀ ≤ j → j < n + 1 → Within (place_at cells' j) (length t)
+    within_rows : (j : ℕ) → n₀ ≤ j → j < n + 1 → Within (place_at held' j) (length t)
     within_rows j a c = dite (ℕ_discrete j n)
-        (λ q. rw (q, put.place) (within_more p i (length t) go.inside go.small))
-        (λ ne. rw (place_kept cells cells' j (λ k h. kept j k h (omega arith))) (go.within j a (omega arith)))
+        (λ q. rw (q, place_here) (within_more p i (length t) go.inside go.small))
+        (λ ne. rw (place_kept held held' j (kept j (omega arith))) (go.within j a (omega arith)))
 
-    before_more : (j k : ℕ) → k < 8 → j < n₀ → cell cells' j k ≡ cell cells₀ j k
-    before_more j k h c = kept j k h (omega (arith, go.low)) ∙ go.before j k h c
+    before_more : (j : ℕ) → j < n₀ → leaf_row held' j ≡ leaf_row held₀ j
+    before_more j c = kept j (omega (arith, go.low)) ∙ go.before j c
 
-    pub going_last : n < LEAVES_MAX → e ≡ length t → LeavesRead (leaves s p₀ [] (drop from t)) t (length t) n₀ cells₀ cells' (Ok (n + 1))
+    pub going_last : n < LEAVES_MAX → e ≡ length t → LeavesRead (leaves s p₀ [] (drop from t)) t (length t) n₀ held₀ held' (Ok (n + 1))
     unfolding leaves_from
     going_last m q =
-        let all : leaves s p₀ [] (drop from t) ≡ leaves_from (λ i. false) cells' t n₀ (n + 1 - n₀) =
-        go.whole ∙ ap (λ (z : List Leaf). leaves_from (λ i. false) cells t n₀ (n - n₀) ++ z) (end.runs p ∙ leaves_end s t p _ e (omega arith)) ∙ sym rows_more in
+        let all : leaves s p₀ [] (drop from t) ≡ leaves_from (λ i. false) held' t n₀ (n + 1 - n₀) =
+        go.whole ∙ ap (λ (z : List Leaf). leaves_from (λ i. false) held t n₀ (n - n₀) ++ z) (end.runs p ∙ leaves_end s t p _ e (omega arith)) ∙ sym rows_more in
         record {
           fitted = record {
             count = rw (all, list_length) (omega (arith, go.low));
@@ -241,33 +237,33 @@ module _ {s : Separators} {t : Text} {from : ℕ} {p₀ : Place} {n₀ : ℕ} {c
           before = before_more;
         }
 
-    pub going_next : n < LEAVES_MAX → e < length t → {p' : Place} → p' ≡ next s (get_or t e 0) p → length cells' ≡ length cells → Going s t from p₀ n₀ cells₀ (e + 1) (n + 1) p' cells'
-    going_next m q {p'} np l = record {
+    pub going_next : n < LEAVES_MAX → e < length t → {p' : Place} → p' ≡ next s (get_or t e 0) p → Going s t from p₀ n₀ held₀ (e + 1) (n + 1) p' held'
+    going_next m q {p'} np = record {
       low = omega (arith, go.low);
       high = omega arith;
       inside = omega arith;
       ahead = omega (arith, go.ahead, end.low);
       small = rw np (within_more _ (i + 1) (e + 1) (omega (arith, end.low)) (within_next s (get_or t e 0) p i go.small));
-      whole = go.whole ∙ ap (λ (z : List Leaf). leaves_from (λ i. false) cells t n₀ (n - n₀) ++ z) (end.runs p ∙ leaves_next s t p _ e q (end.stops q))
-          ∙ rw (np, rows_more) (sym (append_snoc (leaves_from (λ i. false) cells t n₀ (n - n₀)) (leaf p false (some (part t i (e - i)))) (leaves s (next s (get_or t e 0) p) [] (drop (e + 1) t))));
+      whole = go.whole ∙ ap (λ (z : List Leaf). leaves_from (λ i. false) held t n₀ (n - n₀) ++ z) (end.runs p ∙ leaves_next s t p _ e q (end.stops q))
+          ∙ rw (np, rows_more) (sym (append_snoc (leaves_from (λ i. false) held t n₀ (n - n₀)) (leaf p false (some (part t i (e - i)))) (leaves s (next s (get_or t e 0) p) [] (drop (e + 1) t))));
       ends = ends_more;
       within = within_rows;
       before = before_more;
-      long = l ∙ go.long;
+      long = length-set held n read ∙ go.long;
     }
 
 -- what was read from the front of a text stands in the text
-pub read_front : {xs : List Leaf} {t : Text} {e n : ℕ} {cells cells' : List ℕ} (r : Result ℕ Refusal) → e ≤ length t → LeavesRead xs (take e t) (length (take e t)) n cells cells' r → LeavesRead xs t e n cells cells' r
+pub read_front : {xs : List Leaf} {t : Text} {e n : ℕ} {held held' : List HeldLeaf} (r : Result ℕ Refusal) → e ≤ length t → LeavesRead xs (take e t) (length (take e t)) n held held' r → LeavesRead xs t e n held held' r
 unfolding leaves_from leaf_at stored_text
-read_front {xs} {t} {e} {n} {cells} {cells'} (Ok m) l g =
+read_front {xs} {t} {e} {n} {held} {held'} (Ok m) l g =
     let len : length (take e t) ≡ e = length-take-le e t l in
     record {
       fitted = record {
         count = g.fitted.count;
-        are = list_ext (leaf_at (λ i. false) cells' t) (leaf_at (λ i. false) cells' (take e t)) n (m - n) (λ i a b.
-            rw (part_take t e (cell cells' i 1) (cell cells' i 2) (omega (arith, g.fitted.ends i a (omega arith), len)))) ∙ g.fitted.are;
+        are = list_ext (leaf_at (λ i. false) held' t) (leaf_at (λ i. false) held' (take e t)) n (m - n) (λ i a b.
+            rw (part_take t e (leaf_row held' i).start (leaf_row held' i).len (omega (arith, g.fitted.ends i a (omega arith), len)))) ∙ g.fitted.are;
         ends = λ i a b. omega (arith, g.fitted.ends i a b, len);
-        within = λ i a b. within_more (place_at cells' i) (length (take e t)) (length t) (omega (arith, len)) (g.fitted.within i a b);
+        within = λ i a b. within_more (place_at held' i) (length (take e t)) (length t) (omega (arith, len)) (g.fitted.within i a b);
       };
       few = omega (arith, g.few, len);
       most = g.most;

@@ -1,19 +1,73 @@
-// The table of leaves, a slice of rows of eight cells, and the table of segments, an array of 257 such rows. Column 0 of a row is not used.
-// A leaf: the start and the length of its text in the store, 1 if it has vanished, and the four numbers of its place.
-// A segment: its first leaf, the three bytes of its name, and its occurrence. The row behind the last holds the number of leaves in the place of a first leaf.
-ghost use Rattle.std.specs.Prelude.{◌≡◌, [], ◌∷◌, ◌+◌, ◌-◌, ◌*◌, ◌^◌, ◌≤◌, ◌<◌, length, drop};
+// The table of leaves, and the table of segments.
+ghost use Rattle.std.specs.Prelude.{◌≡◌, [], ◌∷◌, ◌+◌, ◌-◌, ◌^◌, ◌≤◌, ◌<◌, length, take, drop};
 ghost use Rattle.std.specs.List.{position_or_len};
+ghost use Rattle.text.specs.Text.{part};
 ghost use Rattle.message_model.specs.Message as Message;
-ghost use Rattle.er7_table.specs.Table.{place_at, Within, label_at, as_label, BytesNamed};
-ghost use Rattle.er7_table.specs.Filling.{LeafEnd, LeafPut, SegmentPut, LeafRoom, LeavesRead};
-ghost use Rattle.refusal.specs.Limits.{LEAVES_MAX};
+ghost use Rattle.er7_table.specs.Table.{Within, as_label};
+ghost use Rattle.er7_table.specs.Filling.{LeafEnd, SegmentPut, LeafRoom, LeavesRead};
+ghost use Rattle.refusal.specs.Limits.{LEAVES_MAX, SEGMENTS_MAX};
 
 use er7::message::{Label, Place};
 use er7::separators::Separators;
 use refusal::Refusal;
-use refusal::limits::LEAVES_MAX;
+use refusal::limits::{LEAVES_MAX, SEGMENTS_MAX};
+
+// A leaf: where its text begins in the store, the length of the text, whether the leaf has vanished, and its place.
+#[derive(Clone, Copy)]
+pub struct Leaf {
+    pub start: usize,
+    pub len: usize,
+    pub gone: bool,
+    pub place: Place,
+}
+
+impl Leaf {
+    // Its text in the store.
+    #[tactic(auto, unfolding(text::specs::Text::part))]
+    pub fn text(self, store: &[u8]) -> &[u8]
+        requires { self.start + self.len ≤ length store.now }
+        ensures { result.now ≡ part store.now self.start self.len }
+    {
+        &store[self.start..self.start + self.len]
+    }
+}
+
+// A row of the table of leaves that no leaf has.
+pub const NO_LEAF: Leaf = Leaf {
+    start: 0,
+    len: 0,
+    gone: false,
+    place: Place {
+        field: 0,
+        repetition: 0,
+        component: 0,
+        subcomponent: 0,
+    },
+};
+
+// A segment: its first leaf, and its label.
+#[derive(Clone, Copy)]
+pub struct Segment {
+    pub first: usize,
+    pub label: Label,
+}
+
+// A row of the table of segments that no segment has.
+pub const NO_SEGMENT: Segment = Segment {
+    first: 0,
+    label: Label {
+        a: 0,
+        b: 0,
+        c: 0,
+        occurrence: 0,
+    },
+};
+
+// The rows of the table of segments: the one behind the last segment has the number of leaves as its first leaf.
+pub const SEGMENT_ROWS: usize = SEGMENTS_MAX + 1;
 
 // Whether b ends a leaf.
+#[tactic(auto, unfolding(message_model::specs::Message::ends_leaf))]
 pub fn ends_leaf(s: Separators, b: u8) -> bool
     ensures { result ≡ Message.ends_leaf s b }
 {
@@ -28,67 +82,58 @@ pub fn is_header_name(a: u8, b: u8, c: u8) -> bool
     matches!((a, b, c), (b'M', b'S', b'H') | (b'F' | b'B', b'H', b'S'))
 }
 
-// The place with these numbers.
-fn place_of(field: usize, repetition: usize, component: usize, subcomponent: usize) -> Place
-    ensures { result ≡ record { field = field; repetition = repetition; component = component; subcomponent = subcomponent } }
-{
-    Place {
-        field,
-        repetition,
-        component,
-        subcomponent,
-    }
-}
-
 // The first place of field n.
+#[tactic(auto, unfolding(message_model::specs::Message::at_field))]
 pub fn at_field(n: usize) -> Place
     ensures { result ≡ Message.at_field n }
 {
-    place_of(n, 1, 1, 1)
+    Place {
+        field: n,
+        repetition: 1,
+        component: 1,
+        subcomponent: 1,
+    }
 }
 
 // Where the leaf behind the delimiter b stands, if the one before it stands at p.
+#[tactic(auto, unfolding(message_model::specs::Message::next, message_model::specs::Message::at_field))]
 pub fn next(s: Separators, b: u8, p: Place) -> Place
     requires { Within p (2 ^ 64 - 2) }
     ensures { result ≡ Message.next s b p }
 {
     if b == s.field {
-        return place_of(p.field + 1, 1, 1, 1);
+        return at_field(p.field + 1);
     }
+    let first = at_field(p.field);
     if b == s.repetition {
-        return place_of(p.field, p.repetition + 1, 1, 1);
+        return Place {
+            repetition: p.repetition + 1,
+            ..first
+        };
     }
     if b == s.component {
-        return place_of(p.field, p.repetition, p.component + 1, 1);
+        return Place {
+            repetition: p.repetition,
+            component: p.component + 1,
+            ..first
+        };
     }
-    place_of(p.field, p.repetition, p.component, p.subcomponent + 1)
-}
-
-// The place of leaf i.
-pub fn place_at(cells: &[usize], i: usize) -> Place
-    requires { i * 8 + 8 ≤ length cells.now }
-    ensures { result ≡ place_at cells.now i }
-{
-    let at = i * 8;
     Place {
-        field: cells[at + 4],
-        repetition: cells[at + 5],
-        component: cells[at + 6],
-        subcomponent: cells[at + 7],
+        subcomponent: p.subcomponent + 1,
+        ..p
     }
 }
 
-// The label of segment k.
-pub fn label_at(segs: &[usize; 2056], k: usize) -> Label
-    requires { BytesNamed segs.now k × (k * 8 + 8 ≤ 2056) }
-    ensures { as_label result ≡ label_at segs.now k }
+// The label of the segment that a line is, by the name at its front, and its occurrence.
+pub fn label_of(line: &[u8], occurrence: usize) -> Label
+    requires { 3 ≤ length line.now }
+    ensures { as_label result ≡ record { name = take 3 line.now; occurrence = occurrence } }
 {
-    let at = k * 8;
     Label {
-        a: segs[at + 2] as u8,
-        b: segs[at + 3] as u8,
-        c: segs[at + 4] as u8,
-        occurrence: segs[at + 5],
+        a: line[0],
+        b: line[1],
+        c: line[2],
+        occurrence,
     }
 }
 
@@ -107,42 +152,13 @@ pub fn leaf_end(text: &[u8], i: usize, s: Separators) -> usize
     i + leaf_len(&text[i..], s)
 }
 
-// Makes row i the leaf at p whose text is n bytes of the store from index start on.
-pub fn put_leaf(cells: &mut [usize], i: usize, p: Place, start: usize, n: usize)
-    requires { i * 8 + 8 ≤ length cells.old }
-    ensures { LeafPut cells.old i p start n cells.new }
+// Makes row k the segment, whose leaves end before end.
+pub fn put_segment(segments: &mut [Segment; SEGMENT_ROWS], k: usize, segment: Segment, end: usize)
+    requires { k < SEGMENTS_MAX }
+    ensures { SegmentPut segments.old k segment end segments.new }
 {
-    let at = i * 8;
-    cells[at + 1] = start;
-    cells[at + 2] = n;
-    cells[at + 3] = 0;
-    cells[at + 4] = p.field;
-    cells[at + 5] = p.repetition;
-    cells[at + 6] = p.component;
-    cells[at + 7] = p.subcomponent;
-}
-
-// Makes row k a segment whose leaves begin at first and end before end.
-pub fn put_segment(
-    segs: &mut [usize],
-    k: usize,
-    first: usize,
-    a: usize,
-    b: usize,
-    c: usize,
-    occurrence: usize,
-    end: usize,
-)
-    requires { k * 8 + 16 ≤ length segs.old }
-    ensures { SegmentPut segs.old k first a b c occurrence end segs.new }
-{
-    let at = k * 8;
-    segs[at + 1] = first;
-    segs[at + 2] = a;
-    segs[at + 3] = b;
-    segs[at + 4] = c;
-    segs[at + 5] = occurrence;
-    segs[at + 9] = end;
+    segments[k] = segment;
+    segments[k + 1].first = end;
 }
 
 // Reads the leaves of text from index from on, of which the first stands at place, into the rows from n0 on.
@@ -153,16 +169,21 @@ pub fn read_leaves(
     s: Separators,
     place: Place,
     n0: usize,
-    cells: &mut [usize],
+    leaves: &mut [Leaf],
 ) -> Result<usize, Refusal>
-    requires { (from ≤ length text.now) × (n0 ≤ LEAVES_MAX) × (n0 < from) × LeafRoom cells.old (length text.now) × Within place from }
-    ensures { LeavesRead (Message.leaves s place [] (drop from text.now)) text.now (length text.now) n0 cells.old cells.new result }
+    requires { (from ≤ length text.now) × (n0 ≤ LEAVES_MAX) × (n0 < from) × LeafRoom leaves.old (length text.now) × Within place from }
+    ensures { LeavesRead (Message.leaves s place [] (drop from text.now)) text.now (length text.now) n0 leaves.old leaves.new result }
 {
     let mut i = from;
     let mut p = place;
     for n in n0..LEAVES_MAX {
         let e = leaf_end(text, i, s);
-        put_leaf(cells, n, p, i, e - i);
+        leaves[n] = Leaf {
+            start: i,
+            len: e - i,
+            gone: false,
+            place: p,
+        };
         if e == text.len() {
             return Ok(n + 1);
         }

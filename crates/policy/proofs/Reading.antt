@@ -1,13 +1,14 @@
 -- Laws of reading a policy line by line. Assumes nothing.
-use Rattle.std.proofs.Common.{◌≡◌, refl, sym, ap, ◌∙◌, Bool, true, false, not, List, [], ◌∷◌, ◌++◌, ℕ, suc, ◌+◌, ◌≤◌, ◌<◌, eqb, lt-ltb, le-ltb, length, take, drop, get_or, set, replicate, length-set, drop-drop, drop_of_length-le, take-suc-set, get_or-set_same, get_or-set_other, length-take, add-one, arith, Result, Ok, Err, IsErrAnd}
-use Rattle.std.proofs.lemmas.List.{map-append, length-map, length-replicate}
+use Rattle.std.proofs.Common.{◌≡◌, refl, sym, ap, ◌∙◌, Bool, true, false, not, List, [], ◌∷◌, ◌++◌, ℕ, suc, ◌+◌, ◌≤◌, ◌<◌, eqb, lt-ltb, le-ltb, length, drop, get_or, drop-drop, length-append, drop_of_length-le, add-one, arith, Result, Ok, Err, IsErrAnd}
+use Rattle.std.proofs.Math.Seq.{get_or-append_seam}
+use Rattle.std.proofs.lemmas.List.{map-append, length-map, get_or_append_left}
 use Rattle.std.proofs.lemmas.Result.{err_from_is_err_and}
 use Rattle.text.specs.Text.{Text, run, rest, part, between, is_in, RunEnd}
 use Rattle.text.specs.declared.bytes.Class.TheVariants.{AllBut}
 use Rattle.text.proofs.Laws.{split}
 use Rattle.text.proofs.Runs.{drop_step}
 use Rattle.refusal.specs.declared.Refusal.{Refusal}
-use Rattle.refusal.specs.declared.Refusal.TheVariants.{TooLong, ForeignByte, TooMany}
+use Rattle.refusal.specs.declared.Refusal.TheVariants.{TooLong, ForeignByte}
 use Rattle.refusal.specs.declared.Refused.{Refused}
 use Rattle.refusal.specs.Refusal.{too_long, no_foreign, without_line}
 use Rattle.refusal.specs.declared.input.Input.TheVariants as Inputs
@@ -16,7 +17,7 @@ use Rattle.er7_redact.specs.Policy.{as_rule, as_posture}
 use Rattle.er7_redact.specs.declared.policy.Rule.{Rule as HeldRule}
 use Rattle.er7_redact.specs.declared.policy.Posture.{Posture as HeldPosture}
 use Rattle.er7_redact.specs.declared.policy.Posture.TheVariants as Postures
-use Rattle.policy_model.specs.Policy.{LineRead, rule, start, after_line, with_rules, read_line, push, policy_lines, read_lines, read_policy}
+use Rattle.policy_model.specs.Policy.{LineRead, start, after_line, with_rules, read_line, push, policy_lines, read_lines, read_policy}
 use Rattle.policy.specs.declared.line.LineRead.{LineRead as HeldLine}
 use Rattle.policy.specs.declared.line.LineRead.TheVariants as LineReads
 use Rattle.policy.specs.declared.line.Unrecognised.{Unrecognised as HeldUnrecognised}
@@ -24,6 +25,7 @@ use Rattle.policy.specs.declared.line.Unrecognised.TheVariants as Held
 use Rattle.policy.specs.declared.policy.Policy.{Policy as HeldPolicy}
 use Rattle.policy.specs.Line.{as_unrecognised, as_line, as_line_read, RuleHeld, PostureHeld, UnrecognisedHeld, LineAt}
 use Rattle.policy.specs.Policy.{as_rules, as_policy, as_read, RulesHeld, PolicyHeld, PolicyIs}
+use Rattle.policy.specs.RuleList.{Pushed}
 use Rattle.policy.specs.Reading.{Starts, goes_on, LineTaken, LinesRead}
 
 -- ---- lines
@@ -52,34 +54,24 @@ lines_from t i e h g =
     let d = drop_step t i h in
     rw (g.run_is, sym (drop-drop 1 e t), g.rest_is) (rw d (lines_step (get_or t i 0) (drop (i + 1) t)))
 
--- ---- the rules of an array
+-- ---- rules
 
-pub rules_length : (t : Text) (rs : List HeldRule) (n : ℕ) → n ≤ length rs → length (as_rules t rs n) ≡ n
+pub rules_length : (t : Text) (rs : List HeldRule) → length (as_rules t rs) ≡ length rs
 unfolding as_rules
-rules_length t rs n h = length-map (take n rs) (as_rule t) ∙ simp length-take (omega arith)
+rules_length t rs = length-map rs (as_rule t)
 
-rules_more : (t : Text) (rs : List HeldRule) (n : ℕ) (r : HeldRule) → n < length rs → as_rules t (set rs n r) (n + 1) ≡ as_rules t rs n ++ (as_rule t r ∷ [])
-unfolding as_rules
-rules_more t rs n r h = rw (add-one, take-suc-set rs n r h) (map-append (as_rule t) (take n rs) (r ∷ []))
-
-more_held : (t : Text) (rs : List HeldRule) (n : ℕ) (r : HeldRule) → n < length rs → RulesHeld t rs n → RuleHeld t r → RulesHeld t (set rs n r) (n + 1)
-more_held t rs n r l g h = record {
-  each = λ k d m. split k n
-      (λ b. let ne : k ≡ n → ⊥ = omega arith in rw (get_or-set_other rs n k r d ne) (g.each k d b))
-      (λ b. let e : k ≡ n = omega arith in rw (e, get_or-set_same rs n r d l) h);
+more_held : (t : Text) (rs : List HeldRule) (r : HeldRule) → RulesHeld t rs → RuleHeld t r → RulesHeld t (rs ++ (r ∷ []))
+more_held t rs r g h = record {
+  each = λ k d m. split k (length rs)
+      (λ b. rw (get_or_append_left rs (r ∷ []) d k b) (g.each k d b))
+      (λ b. let e : k ≡ length rs = omega (arith, simp length-append at m) in rw (e, get_or-append_seam rs r [] d) h);
 }
 
 -- a policy that says nothing
-pub starts : (r : HeldRule) → Starts (record { rules = replicate RULES_MAX r; count = 0; posture = Postures.Accept; unrecognised = Held.Refuse; sweep = true })
-starts r = record {
+pub starts : Starts (record { rules = []; posture = Postures.Accept; unrecognised = Held.Refuse; sweep = true })
+starts = record {
   is = λ t. unfold as_policy as_rules as_posture as_unrecognised start in refl;
-  held = λ t. record {
-    long = length-replicate RULES_MAX r;
-    few = omega arith;
-    rules = record { each = λ k d h. absurd (omega arith) };
-    posture = tt;
-    unrecognised = tt;
-  };
+  held = λ t. record { few = omega arith; rules = record { each = λ k d h. absurd (omega arith) }; posture = tt; unrecognised = tt };
 }
 
 -- ---- what a line says, taken into a policy
@@ -93,47 +85,43 @@ module _ (t : Text) (p : HeldPolicy) where
   unfolding as_line after_line goes_on as_policy
   posture_taken x h = record {
     is = λ g n f. refl;
-    held = λ g. record { long = g.long; few = g.few; rules = g.rules; posture = h; unrecognised = g.unrecognised };
+    held = λ g. record { few = g.few; rules = g.rules; posture = h; unrecognised = g.unrecognised };
   }
 
   pub unrecognised_taken : (x : HeldUnrecognised) → UnrecognisedHeld t x → LineTaken t (as_line t (LineReads.Unrecognised x)) p (record p { unrecognised = x }) (Ok tt)
   unfolding as_line after_line goes_on as_policy
   unrecognised_taken x h = record {
     is = λ g n f. refl;
-    held = λ g. record { long = g.long; few = g.few; rules = g.rules; posture = g.posture; unrecognised = h };
+    held = λ g. record { few = g.few; rules = g.rules; posture = g.posture; unrecognised = h };
   }
 
   pub sweep_taken : (b : Bool) → LineTaken t (as_line t (LineReads.Sweep b)) p (record p { sweep = b }) (Ok tt)
   unfolding as_line after_line goes_on as_policy
   sweep_taken b = record {
     is = λ g n f. refl;
-    held = λ g. record { long = g.long; few = g.few; rules = g.rules; posture = g.posture; unrecognised = g.unrecognised };
+    held = λ g. record { few = g.few; rules = g.rules; posture = g.posture; unrecognised = g.unrecognised };
   }
 
-  pub rule_pushed : (r : HeldRule) → RuleHeld t r → p.count < RULES_MAX
-      → LineTaken t (rule (as_rule t r)) p (record p { rules = set p.rules p.count r; count = p.count + 1 }) (Ok tt)
-  unfolding after_line goes_on as_policy with_rules
-  rule_pushed r h l = record {
-    is = λ g n f. rw (rules_length t p.rules p.count (omega (arith, g.long)), lt-ltb p.count RULES_MAX l, rules_more t p.rules p.count r (omega (arith, g.long)));
+-- a rule, put behind the others or refused
+module _ (t : Text) (p : HeldPolicy) (r : HeldRule) (rs : List HeldRule) where
+  pub rule_taken : RuleHeld t r → {u : Unit {0}} → Pushed p.rules r rs (Ok u) → LineTaken t (as_line t (LineReads.Rule r)) p (record p { rules = rs }) (Ok tt)
+  unfolding as_line after_line goes_on as_policy with_rules as_rules
+  rule_taken h f = record {
+    is = λ g n k. rw (rules_length t p.rules, lt-ltb (length p.rules) RULES_MAX f.0, f.1, map-append (as_rule t) p.rules (r ∷ []));
     held = λ g. record {
-      long = length-set p.rules p.count r ∙ g.long;
-      few = omega arith;
-      rules = more_held t p.rules p.count r (omega (arith, g.long)) g.rules h;
+      few = rw f.1 (simp length-append (omega (arith, f.0)));
+      rules = rw f.1 (more_held t p.rules r g.rules h);
       posture = g.posture;
       unrecognised = g.unrecognised;
     };
   }
 
-  pub rule_refused : (r : HeldRule) → RULES_MAX ≤ p.count → LineTaken t (rule (as_rule t r)) p p (Err TooMany)
-  unfolding after_line goes_on as_policy
-  rule_refused r l = record {
-    is = λ g n f. rw (rules_length t p.rules p.count (omega (arith, g.long, g.few)), le-ltb p.count RULES_MAX l);
+  pub rule_refused : {e : Refusal} → Pushed p.rules r rs (Err e) → LineTaken t (as_line t (LineReads.Rule r)) p (record p { rules = rs }) (Err e)
+  unfolding as_line after_line goes_on as_policy
+  rule_refused f = rw (f.0, f.2) (record {
+    is = λ g n k. rw (rules_length t p.rules, le-ltb (length p.rules) RULES_MAX f.1);
     held = λ g. g;
-  }
-
-pub rule_taken : {t : Text} (x : HeldRule) {p q : HeldPolicy} {r : Result (Unit {0}) Refusal} → LineTaken t (rule (as_rule t x)) p q r → LineTaken t (as_line t (LineReads.Rule x)) p q r
-unfolding as_line
-rule_taken x g = g
+  })
 
 -- a line that was read, or refused
 module _ {t : Text} {said : LineRead} {p : HeldPolicy} where

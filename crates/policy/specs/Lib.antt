@@ -1,3 +1,4 @@
 pub mod Line
 pub mod Policy
 pub mod Reading
+pub mod RuleList

@@ -3,3 +3,4 @@
 
 pub mod line;
 pub mod policy;
+pub mod rule_list;

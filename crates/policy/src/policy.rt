@@ -1,45 +1,27 @@
 // Policies, and how they are read.
 ghost use Rattle.std.specs.Prelude.{◌≡◌, ◌≤◌, length};
-ghost use Rattle.text.specs.Text.{Text, between};
-ghost use Rattle.er7_redact.specs.Policy.{as_rule};
+ghost use Rattle.text.specs.Text.{between};
 ghost use Rattle.policy_model.specs.Policy as M;
 ghost use Rattle.policy.specs.Policy.{PolicyIs};
-ghost use Rattle.policy.specs.Line.{RuleHeld};
 ghost use Rattle.policy.specs.Reading.{Starts, LineTaken, LinesRead};
 ghost use Rattle.refusal.specs.Limits.{INPUT_MAX};
 
 use super::line::{LineRead, Unrecognised, read_line};
-use er7::path::Path;
-use er7_redact::action::Action;
-use er7_redact::policy::{Posture, Rule};
+use super::rule_list::RuleList;
+use er7_redact::policy::Posture;
 use refusal::input::{Input, no_foreign};
-use refusal::limits::{INPUT_MAX, RULES_MAX};
+use refusal::limits::INPUT_MAX;
 use refusal::{Refusal, Refused};
 use text::bytes::{Class, run_end};
 
-// The rules in their order, the first `count` of the array, and the three defaults. Names and replacements stand in the policy's text.
-#[derive(Clone, Copy)]
+// The rules in their order, and the three defaults. Names and replacements stand in the policy's text.
+#[derive(Drop)]
 pub struct Policy {
-    pub rules: [Rule; RULES_MAX],
-    pub count: usize,
+    pub rules: RuleList,
     pub posture: Posture,
     pub unrecognised: Unrecognised,
     pub sweep: bool,
 }
-
-// A rule that does nothing, for the places behind the last rule.
-const NO_RULE: Rule = Rule {
-    path: Path {
-        segment: 0,
-        segment_len: 0,
-        segment_occurrence: 0,
-        field: 0,
-        repetition: 0,
-        component: 0,
-        subcomponent: 0,
-    },
-    action: Action::Keep,
-};
 
 impl Policy {
     // A policy that says nothing.
@@ -47,24 +29,11 @@ impl Policy {
         ensures { Starts result }
     {
         Policy {
-            rules: [NO_RULE; RULES_MAX],
-            count: 0,
+            rules: RuleList::none(),
             posture: Posture::Accept,
             unrecognised: Unrecognised::Refuse,
             sweep: true,
         }
-    }
-
-    // Puts a rule behind the others, if there is a place left.
-    fn push(&mut self, rule: Rule) -> Result<(), Refusal>
-        ensures { (t : Text) → RuleHeld t rule → LineTaken t (M.rule (as_rule t rule)) self.old self.new result }
-    {
-        if self.count < RULES_MAX {
-            self.rules[self.count] = rule;
-            self.count += 1;
-            return Ok(());
-        }
-        Err(Refusal::TooMany)
     }
 
     // Takes in the line from index i to index e; a later directive replaces an earlier one.
@@ -74,7 +43,7 @@ impl Policy {
     {
         match read_line(text, i, e)? {
             LineRead::Nothing => {}
-            LineRead::Rule(rule) => self.push(rule)?,
+            LineRead::Rule(rule) => self.rules.push(rule)?,
             LineRead::Posture(posture) => self.posture = posture,
             LineRead::Unrecognised(unrecognised) => self.unrecognised = unrecognised,
             LineRead::Sweep(sweep) => self.sweep = sweep,

@@ -1,5 +1,5 @@
 -- Laws of a printed policy's parts. Assumes nothing.
-use Rattle.std.proofs.Common.{le_refl, ◌≡◌, refl, sym, ap, ◌∙◌, true, false, List, [], map, take, take_all, length-take, get_or-take, ◌∷◌, ◌++◌, append_assoc, ℕ, suc, ◌+◌, ◌-◌, ◌≤◌, ◌<◌, max, arith, ne_eqb, eq-eqb, length, get_or, replicate, length-append}
+use Rattle.std.proofs.Common.{◌≡◌, refl, sym, ap, ◌∙◌, true, false, List, [], take, ◌∷◌, ◌++◌, append_assoc, ℕ, suc, ◌+◌, ◌-◌, ◌≤◌, ◌<◌, max, arith, ne_eqb, eq-eqb, length, get_or, replicate, length-append}
 use Rattle.std.proofs.lemmas.List.{length-replicate}
 use Rattle.text.specs.Text.{Text, bytes, Wrote}
 use Rattle.text.proofs.Writes.{wrote_none, wrote_then, wrote_length}
@@ -13,8 +13,8 @@ use Rattle.er7_redact.specs.declared.policy.Posture.TheVariants as Postures
 use Rattle.policy_model.specs.Policy.{Unrecognised, width, gap, column, rule_line, rule_lines, posture_line, unrecognised_text, sweep_text, joined}
 use Rattle.policy.specs.declared.line.Unrecognised.{Unrecognised as HeldUnrecognised}
 use Rattle.policy.specs.declared.line.Unrecognised.TheVariants as Held
-use Rattle.policy.specs.Line.{as_unrecognised, RuleHeld}
-use Rattle.policy.specs.Policy.{as_rules, RulesHeld}
+use Rattle.policy.specs.Line.{as_unrecognised}
+use Rattle.policy.specs.Policy.{as_rules}
 use Rattle.policy.proofs.Rules.{behind, rules_step, rules_split}
 use Rattle.policy_print.specs.Display.{with_lf, rule_text, rules_text, blank_line, unrecognised_line, sweep_line}
 
@@ -131,14 +131,6 @@ module _ (n : ℕ) (r : Rule) where
       let q : k - at ≡ length (print_path r.path) = omega (arith, f.end) in
       rw rule_parts (wrote_then f (wrote_ended (rw q at g) h i))
 
--- the first n rules of an array, all of them
-pub all_rules : (t : Text) (rs : List HeldRule) (n i : ℕ) → length (take n rs) ≤ i → as_rules t (take n rs) i ≡ as_rules t rs n
-unfolding as_rules
-all_rules t rs n i h = ap (map (as_rule t)) (take_all i (take n rs) h)
-
-pub rule_in : {t : Text} {rs : List HeldRule} {n i : ℕ} → RulesHeld t rs n → (z : HeldRule) → i < length (take n rs) → RuleHeld t (get_or (take n rs) i z)
-rule_in {t} {rs} {n} {i} g z h = let l : i < n = omega (arith, simp length-take at h) in rw (get_or-take n rs i z l) (g.each i z l)
-
 -- ---- the rules' lines
 
 pub joined_append : (xs ys : List Text) → joined (xs ++ ys) ≡ joined xs ++ joined ys
@@ -171,7 +163,7 @@ narrow r a n b c d e f h = omega arith
 
 -- the widest of the first i rules
 pub record WidthTo (t : Text) (rs : List HeldRule) (i w : ℕ) : Type 0 where
-  pub is : w ≡ width (as_rules t rs i)
+  pub is : w ≡ width (as_rules t (take i rs))
 
 pub width_start : (t : Text) (rs : List HeldRule) → WidthTo t rs 0 0
 width_start t rs = record { is = unfold as_rules width in refl }
@@ -179,33 +171,33 @@ width_start t rs = record { is = unfold as_rules width in refl }
 pub width_more : (t : Text) (rs : List HeldRule) (i w : ℕ) (z : HeldRule) {l : ℕ} → WidthTo t rs i w → i < length rs
     → l ≡ length (print_path (as_rule t (get_or rs i z)).path) → WidthTo t rs (i + 1) (max w l)
 width_more t rs i w z g h e = record {
-  is = rw (rules_step t rs i z h, width_append (as_rules t rs i) (as_rule t (get_or rs i z) ∷ [])) (unfold width in omega (arith, g.is, e));
+  is = rw (rules_step t rs i z h, width_append (as_rules t (take i rs)) (as_rule t (get_or rs i z) ∷ [])) (unfold width in omega (arith, g.is, e));
 }
 
 -- the first i rules are written
 pub record RulesTo (t : Text) (rs : List HeldRule) (n at i : ℕ) (d d' : Text) (k : ℕ) : Type 0 where
-  pub wrote : Wrote d at (rules_text n (as_rules t rs i)) d' k
+  pub wrote : Wrote d at (rules_text n (as_rules t (take i rs))) d' k
 
 pub rules_start : (t : Text) (rs : List HeldRule) (n at : ℕ) (d : Text) → at ≤ length d → RulesTo t rs n at 0 d d at
 rules_start t rs n at d h = record { wrote = unfold rules_text as_rules rule_lines joined in wrote_none d at h }
 
 module _ (t : Text) (rs : List HeldRule) (n i : ℕ) (z : HeldRule) (h : i < length rs) where
-  text_step : rules_text n (as_rules t rs (i + 1)) ≡ rules_text n (as_rules t rs i) ++ rule_text n (as_rule t (get_or rs i z))
-  text_step = rw (rules_step t rs i z h) (rules_append n (as_rules t rs i) (as_rule t (get_or rs i z) ∷ []) ∙ rw (rules_one n (as_rule t (get_or rs i z))))
+  text_step : rules_text n (as_rules t (take (i + 1) rs)) ≡ rules_text n (as_rules t (take i rs)) ++ rule_text n (as_rule t (get_or rs i z))
+  text_step = rw (rules_step t rs i z h) (rules_append n (as_rules t (take i rs)) (as_rule t (get_or rs i z) ∷ []) ∙ rw (rules_one n (as_rule t (get_or rs i z))))
 
   -- the next rule's path fits in the column, and its line in the room
-  pub rule_narrow : width (as_rules t rs (length rs)) ≤ n → length (print_path (as_rule t (get_or rs i z)).path) ≤ n
+  pub rule_narrow : width (as_rules t rs) ≤ n → length (print_path (as_rule t (get_or rs i z)).path) ≤ n
   rule_narrow w =
-      let a = ap width (rules_split t rs i z (length rs) h (le_refl _)) ∙ width_append (as_rules t rs (i + 1)) (behind t rs i z (length rs)) in
-      let b = ap width (rules_step t rs i z h) ∙ width_append (as_rules t rs i) (as_rule t (get_or rs i z) ∷ []) in
-      narrow (as_rule t (get_or rs i z)) (width (as_rules t rs (length rs))) n (width (as_rules t rs (i + 1))) (width (behind t rs i z (length rs))) (width (as_rules t rs i)) a b w
+      let a = ap width (rules_split t rs i) ∙ width_append (as_rules t (take (i + 1) rs)) (behind t rs i) in
+      let b = ap width (rules_step t rs i z h) ∙ width_append (as_rules t (take i rs)) (as_rule t (get_or rs i z) ∷ []) in
+      narrow (as_rule t (get_or rs i z)) (width (as_rules t rs)) n (width (as_rules t (take (i + 1) rs))) (width (behind t rs i)) (width (as_rules t (take i rs))) a b w
 
-  pub rule_fits : {d d' : Text} {at k : ℕ} → RulesTo t rs n at i d d' k → at + length (rules_text n (as_rules t rs (length rs))) ≤ length d
+  pub rule_fits : {d d' : Text} {at k : ℕ} → RulesTo t rs n at i d d' k → at + length (rules_text n (as_rules t rs)) ≤ length d
       → k + length (rule_text n (as_rule t (get_or rs i z))) ≤ length d'
   rule_fits {d} {d'} {at} {k} g r =
-      let a = ap (λ xs. length (rules_text n xs)) (rules_split t rs i z (length rs) h (le_refl _)) ∙ ap length (rules_append n (as_rules t rs (i + 1)) (behind t rs i z (length rs)))
-      ∙ length-append (rules_text n (as_rules t rs (i + 1))) (rules_text n (behind t rs i z (length rs))) in
-      let b = ap length text_step ∙ length-append (rules_text n (as_rules t rs i)) (rule_text n (as_rule t (get_or rs i z))) in
+      let a = ap (λ xs. length (rules_text n xs)) (rules_split t rs i) ∙ ap length (rules_append n (as_rules t (take (i + 1) rs)) (behind t rs i))
+      ∙ length-append (rules_text n (as_rules t (take (i + 1) rs))) (rules_text n (behind t rs i)) in
+      let b = ap length text_step ∙ length-append (rules_text n (as_rules t (take i rs))) (rule_text n (as_rule t (get_or rs i z))) in
       omega (arith, g.wrote.end, wrote_length g.wrote)
 
   pub rules_more : {d d₁ d₂ : Text} {at k r : ℕ} → RulesTo t rs n at i d d₁ k → Wrote d₁ k (rule_text n (as_rule t (get_or rs i z))) d₂ r

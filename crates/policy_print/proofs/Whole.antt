@@ -58,24 +58,24 @@ defaults_wrote p u b f g h = wrote_then f (wrote_then g h)
 
 module _ (t : Text) (p : HeldPolicy) (h : PolicyHeld t p) where
   rules_of : List Rule
-  rules_of = as_rules t p.rules p.count
+  rules_of = as_rules t p.rules
 
   defaults_of : Text
   defaults_of = defaults_text (as_posture t p.posture) (as_unrecognised t p.unrecognised) p.sweep
 
-  print_parts : print_policy (as_policy t p) ≡ rules_text (width rules_of) rules_of ++ (blank_line p.count ++ defaults_of)
+  print_parts : print_policy (as_policy t p) ≡ rules_text (width rules_of) rules_of ++ (blank_line (length p.rules) ++ defaults_of)
   unfolding as_policy rules_of defaults_of
   print_parts =
-      policy_parts (as_policy t p) ∙ rw (rules_length t p.rules p.count (omega (arith, h.long, h.few)))
+      policy_parts (as_policy t p) ∙ rw (rules_length t p.rules)
 
   pub print_length : length (print_policy (as_policy t p))
-      ≡ length (rules_text (width (as_rules t p.rules p.count)) (as_rules t p.rules p.count))
-      + (length (blank_line p.count) + length (defaults_text (as_posture t p.posture) (as_unrecognised t p.unrecognised) p.sweep))
+      ≡ length (rules_text (width (as_rules t p.rules)) (as_rules t p.rules))
+      + (length (blank_line (length p.rules)) + length (defaults_text (as_posture t p.posture) (as_unrecognised t p.unrecognised) p.sweep))
   unfolding rules_of defaults_of
-  print_length = ap length print_parts ∙ three_lengths (rules_text (width rules_of) rules_of) (blank_line p.count) defaults_of
+  print_length = ap length print_parts ∙ three_lengths (rules_text (width rules_of) rules_of) (blank_line (length p.rules)) defaults_of
 
-  pub print_wrote : {d d₁ d₂ d₃ : Text} {n at k l r : ℕ} → n ≡ width (as_rules t p.rules p.count) → Wrote d at (rules_text n (as_rules t p.rules p.count)) d₁ k
-      → Wrote d₁ k (blank_line p.count) d₂ l → Wrote d₂ l (defaults_text (as_posture t p.posture) (as_unrecognised t p.unrecognised) p.sweep) d₃ r
+  pub print_wrote : {d d₁ d₂ d₃ : Text} {n at k l r : ℕ} → n ≡ width (as_rules t p.rules) → Wrote d at (rules_text n (as_rules t p.rules)) d₁ k
+      → Wrote d₁ k (blank_line (length p.rules)) d₂ l → Wrote d₂ l (defaults_text (as_posture t p.posture) (as_unrecognised t p.unrecognised) p.sweep) d₃ r
       → Wrote d at (print_policy (as_policy t p)) d₃ r
   unfolding rules_of defaults_of
   print_wrote e f g k = rw print_parts (wrote_then (rw e at f) (wrote_then g k))
@@ -94,42 +94,42 @@ module _ (s t : Text) (p q : HeldPosture) where
 
 module _ (s t : Text) (p q : HeldPolicy) (g : PolicyHeld s p) (h : PolicyHeld t q) where
   first : List Rule
-  first = as_rules s p.rules p.count
+  first = as_rules s p.rules
 
   second : List Rule
-  second = as_rules t q.rules q.count
+  second = as_rules t q.rules
 
   merged_defaults : Text
   merged_defaults = defaults_text (stricter (as_posture s p.posture) (as_posture t q.posture)) (as_unrecognised t q.unrecognised) (p.sweep || q.sweep)
 
   merged_parts : print_policy (merged (as_policy s p) (as_policy t q))
-      ≡ rules_text (max (width first) (width second)) first ++ (rules_text (max (width first) (width second)) second ++ (blank_line (p.count + q.count) ++ merged_defaults))
+      ≡ rules_text (max (width first) (width second)) first ++ (rules_text (max (width first) (width second)) second ++ (blank_line (length p.rules + length q.rules) ++ merged_defaults))
   unfolding as_policy merged first second merged_defaults
   merged_parts =
       policy_parts (merged (as_policy s p) (as_policy t q))
       ∙ rw (
         width_append first second,
         length-append first second,
-        rules_length s p.rules p.count (omega (arith, g.long, g.few)),
-        rules_length t q.rules q.count (omega (arith, h.long, h.few)),
+        rules_length s p.rules,
+        rules_length t q.rules,
         rules_append (max (width first) (width second)) first second,
         append_assoc,
       )
 
   pub merged_length : length (print_policy (merged (as_policy s p) (as_policy t q)))
-      ≡ length (rules_text (max (width (as_rules s p.rules p.count)) (width (as_rules t q.rules q.count))) (as_rules s p.rules p.count))
-      + (length (rules_text (max (width (as_rules s p.rules p.count)) (width (as_rules t q.rules q.count))) (as_rules t q.rules q.count))
-      + (length (blank_line (p.count + q.count))
+      ≡ length (rules_text (max (width (as_rules s p.rules)) (width (as_rules t q.rules))) (as_rules s p.rules))
+      + (length (rules_text (max (width (as_rules s p.rules)) (width (as_rules t q.rules))) (as_rules t q.rules))
+      + (length (blank_line (length p.rules + length q.rules))
       + length (defaults_text (stricter (as_posture s p.posture) (as_posture t q.posture)) (as_unrecognised t q.unrecognised) (p.sweep || q.sweep))))
   unfolding first second merged_defaults
   merged_length =
       ap length merged_parts
-      ∙ length-append (rules_text (max (width first) (width second)) first) (rules_text (max (width first) (width second)) second ++ (blank_line (p.count + q.count) ++ merged_defaults))
-      ∙ rw (three_lengths (rules_text (max (width first) (width second)) second) (blank_line (p.count + q.count)) merged_defaults)
+      ∙ length-append (rules_text (max (width first) (width second)) first) (rules_text (max (width first) (width second)) second ++ (blank_line (length p.rules + length q.rules) ++ merged_defaults))
+      ∙ rw (three_lengths (rules_text (max (width first) (width second)) second) (blank_line (length p.rules + length q.rules)) merged_defaults)
 
-  pub merged_wrote : {d d₁ d₂ d₃ d₄ : Text} {n at k l m r : ℕ} → n ≡ max (width (as_rules s p.rules p.count)) (width (as_rules t q.rules q.count))
-      → Wrote d at (rules_text n (as_rules s p.rules p.count)) d₁ k → Wrote d₁ k (rules_text n (as_rules t q.rules q.count)) d₂ l
-      → Wrote d₂ l (blank_line (p.count + q.count)) d₃ m
+  pub merged_wrote : {d d₁ d₂ d₃ d₄ : Text} {n at k l m r : ℕ} → n ≡ max (width (as_rules s p.rules)) (width (as_rules t q.rules))
+      → Wrote d at (rules_text n (as_rules s p.rules)) d₁ k → Wrote d₁ k (rules_text n (as_rules t q.rules)) d₂ l
+      → Wrote d₂ l (blank_line (length p.rules + length q.rules)) d₃ m
       → Wrote d₃ m (defaults_text (stricter (as_posture s p.posture) (as_posture t q.posture)) (as_unrecognised t q.unrecognised) (p.sweep || q.sweep)) d₄ r
       → Wrote d at (print_policy (merged (as_policy s p) (as_policy t q))) d₄ r
   unfolding first second merged_defaults
@@ -173,19 +173,19 @@ appended_both p q e f = rw (e, f)
 
 -- the merged count
 module _ (s t : Text) (p q : HeldPolicy) (g : PolicyHeld s p) (h : PolicyHeld t q) where
-  counts : length (as_policy s p).rules + length (as_policy t q).rules ≡ p.count + q.count
+  counts : length (as_policy s p).rules + length (as_policy t q).rules ≡ length p.rules + length q.rules
   unfolding as_policy
-  counts = rw (rules_length s p.rules p.count (omega (arith, g.long, g.few)), rules_length t q.rules q.count (omega (arith, h.long, h.few)))
+  counts = rw (rules_length s p.rules, rules_length t q.rules)
 
-  pub many_merged : RULES_MAX < p.count + q.count → merged_read (as_policy s p) (as_policy t q) ≡ refused TooMany 0
+  pub many_merged : RULES_MAX < length p.rules + length q.rules → merged_read (as_policy s p) (as_policy t q) ≡ refused TooMany 0
   unfolding merged_read
-  many_merged l = rw (counts, lt-ltb RULES_MAX (p.count + q.count) l)
+  many_merged l = rw (counts, lt-ltb RULES_MAX (length p.rules + length q.rules) l)
 
-  pub few_merged : p.count + q.count ≤ RULES_MAX → merged_read (as_policy s p) (as_policy t q) ≡ read (merged (as_policy s p) (as_policy t q))
+  pub few_merged : length p.rules + length q.rules ≤ RULES_MAX → merged_read (as_policy s p) (as_policy t q) ≡ read (merged (as_policy s p) (as_policy t q))
   unfolding merged_read
-  few_merged l = rw (counts, le-ltb RULES_MAX (p.count + q.count) l)
+  few_merged l = rw (counts, le-ltb RULES_MAX (length p.rules + length q.rules) l)
 
-  pub merged_room : read_policy s ≡ read (as_policy s p) → read_policy t ≡ read (as_policy t q) → p.count + q.count ≤ RULES_MAX
+  pub merged_room : read_policy s ≡ read (as_policy s p) → read_policy t ≡ read (as_policy t q) → length p.rules + length q.rules ≤ RULES_MAX
       → length (print_policy (merged (as_policy s p) (as_policy t q))) ≤ INPUT_MAX
   merged_room e f l = merged_fits s t (as_policy s p) (as_policy t q) e f (omega (arith, counts))
 

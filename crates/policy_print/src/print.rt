@@ -17,6 +17,7 @@ use refusal::limits::RULES_MAX;
 use refusal::{Refusal, Refused};
 
 // Writes the three default lines. What stands in the posture is a part of s, what stands in u a part of t.
+#[tactic(auto, using(text::proofs::Writes::wrote_length, crate::proofs::Whole::defaults_length))]
 fn put_defaults(
     posture: Posture,
     s: &[u8],
@@ -35,13 +36,14 @@ fn put_defaults(
 }
 
 // Writes the policy, whose names and replacements stand in text, to out from index at on, and returns the index behind it.
+#[tactic(auto, using(text::proofs::Writes::wrote_length, crate::proofs::Whole::print_length))]
 pub fn print(policy: &Policy, text: &[u8], out: &mut [u8], at: usize) -> usize
     requires { PolicyHeld text.now policy.now × (at + length (print_policy (as_policy text.now policy.now)) ≤ length out.old) }
     ensures { Wrote out.old at (print_policy (as_policy text.now policy.now)) out.new result }
 {
     let n = width(policy, text);
     let a = put_rules(policy, text, n, out, at);
-    let b = put_blank(policy.count, out, a);
+    let b = put_blank(policy.rules.len(), out, a);
     put_defaults(
         policy.posture,
         text,
@@ -74,6 +76,7 @@ fn put_merged(
 }
 
 // Writes the merged policy of p, which stands in s, and q, which stands in t, to out from index at on.
+#[tactic(auto, using(text::proofs::Writes::wrote_length, crate::proofs::Whole::merged_length))]
 fn print_merged(p: &Policy, s: &[u8], q: &Policy, t: &[u8], out: &mut [u8], at: usize) -> usize
     requires { PolicyHeld s.now p.now × PolicyHeld t.now q.now × (at + length (print_policy (merged (as_policy s.now p.now) (as_policy t.now q.now))) ≤ length out.old) }
     ensures { Wrote out.old at (print_policy (merged (as_policy s.now p.now) (as_policy t.now q.now))) out.new result }
@@ -81,7 +84,7 @@ fn print_merged(p: &Policy, s: &[u8], q: &Policy, t: &[u8], out: &mut [u8], at: 
     let n = width(p, s).max(width(q, t));
     let a = put_rules(p, s, n, out, at);
     let b = put_rules(q, t, n, out, a);
-    let k = put_blank(p.count + q.count, out, b);
+    let k = put_blank(p.rules.len() + q.rules.len(), out, b);
     let first = p.posture;
     let second = q.posture;
     let u = q.unrecognised;
@@ -104,7 +107,7 @@ pub fn append(s: &[u8], t: &[u8], out: &mut [u8]) -> Result<usize, Refused>
 {
     let p = parse(s)?;
     let q = parse(t)?;
-    if RULES_MAX < p.count + q.count {
+    if RULES_MAX < p.rules.len() + q.rules.len() {
         return Err(Refusal::TooMany.into());
     }
     Ok(print_merged(&p, s, &q, t, out, 0))

@@ -1,5 +1,5 @@
 -- Laws of the entry redact. Assumes nothing.
-use Rattle.std.specs.Prelude.{◌≡◌, ℕ, ◌*◌, ◌<◌, ◌≤◌, Bool, true, false, cond, ltb, List, length, take, Ok, Err}
+use Rattle.std.specs.Prelude.{◌≡◌, ℕ, ◌<◌, ◌≤◌, Bool, true, false, cond, ltb, List, length, take, Ok, Err}
 use Rattle.std.specs.declared.result.Result.{Result}
 use Rattle.std.specs.Result.{IsErrAnd}
 use Rattle.std.proofs.lemmas.Result.{err_from_is_err_and}
@@ -27,10 +27,11 @@ use Rattle.run_model.specs.Redact.{redact, redact_from, print_rows}
 use Rattle.run_model.specs.Entries.{Answer, done, refused, Redaction, RedactOutcome, outcome_with_report, with_policy, without_fault, reported, with_buffers, is_short}
 use Rattle.run_model.proofs.Chains.{message_fields_first}
 use Rattle.run_model.proofs.Sizes.{redacted_fits}
+use Rattle.er7_table.specs.declared.table.Leaf.{Leaf as HeldLeaf}
+use Rattle.er7_table.specs.declared.table.Segment.{Segment as HeldSegment}
 use Rattle.er7_table.specs.Filling.{LeafRoom}
 use Rattle.er7_message.specs.Parsed.{fault_of, ParsedAs}
 use Rattle.er7_message.specs.declared.message.Layout.{Layout}
-use Rattle.er7_render.proofs.PrintBack.{parsed_named}
 use Rattle.text.proofs.Kept.{wrote_part}
 use Rattle.redact_1_run.specs.declared.from_tables.Redacted.{Redacted}
 use Rattle.redact_1_run.specs.Ran.{Loaded, AnyLoaded, Left, RedactedIs}
@@ -51,24 +52,23 @@ not_long : (t : Text) → message_fault t ≡ none → length t ≤ INPUT_MAX
 unfolding too_long
 not_long t e = ltb-false INPUT_MAX (length t) (not_too_long t e)
 
-module _ {message : Text} {segs cells : List ℕ} {layout : Layout} (p : ParsedAs message (message_fault message) (message_of message) segs cells (Ok layout)) where
+module _ {message : Text} {segs : List HeldSegment} {held : List HeldLeaf} {layout : Layout} (p : ParsedAs message (message_fault message) (message_of message) segs held (Ok layout)) where
   pub no_fault : message_fault message ≡ none
   unfolding fault_of
   no_fault = sym p.is
 
-  pub parsed_loaded : {policy : Text} → length policy ≤ INPUT_MAX → Loaded message (message_of message) policy (length message) layout segs cells
+  pub parsed_loaded : {policy : Text} → length policy ≤ INPUT_MAX → Loaded message (message_of message) policy (length message) layout segs held
   parsed_loaded {policy} h = record {
     standing = p.tables;
     prints = message_prints message no_fault;
     chained = message_chains message;
     first = message_fields_first message no_fault;
-    named = parsed_named p;
     policy_short = h;
     within = omega arith;
     most = omega (arith, not_long message no_fault);
   }
 
-  pub any_loaded : {policy : Text} → length policy ≤ INPUT_MAX → AnyLoaded message policy (length message) layout segs cells
+  pub any_loaded : {policy : Text} → length policy ≤ INPUT_MAX → AnyLoaded message policy (length message) layout segs held
   any_loaded h = record { message = message_of message; loaded = parsed_loaded h }
 
 -- ---- refusals that are handed on
@@ -76,7 +76,7 @@ module _ {message : Text} {segs cells : List ℕ} {layout : Layout} (p : ParsedA
 pub hands_on : {x : Answer Redaction} {output report : Text} {e : Refused} (r : Result Redacted Refused) → IsErrAnd r (λ y. y ≡ e) → AnsweredAs x output report (Err e) → AnsweredAs x output report r
 hands_on r h g = let p = err_from_is_err_and r h in rw (p.1, p.2) g
 
-pub message_refused : {message : Text} {segs cells : List ℕ} {x : Refusal} {output report : Text} → ParsedAs message (message_fault message) (message_of message) segs cells (Err x) → (y : Answer Redaction)
+pub message_refused : {message : Text} {segs : List HeldSegment} {held : List HeldLeaf} {x : Refusal} {output report : Text} → ParsedAs message (message_fault message) (message_of message) segs held (Err x) → (y : Answer Redaction)
     → AnsweredAs (without_fault (message_fault message) y) output report (Err (without_line x))
 unfolding without_fault fault_of without_line
 message_refused p y = record { out = rw (← p.is) refl }
@@ -177,9 +177,9 @@ module _ {x : Answer Redaction} {output report : Text} (a ρ b : ℕ) (wide : is
 -- ---- room in the table of leaves
 
 -- for as many as a message of m bytes can have
-pub short_room : (cells : List ℕ) (m : ℕ) → m * 8 ≤ length cells → LeafRoom cells m
-short_room cells m h = record { room = λ i a b. omega arith }
+pub short_room : (held : List HeldLeaf) (m : ℕ) → m ≤ length held → LeafRoom held m
+short_room held m h = record { room = λ i a b. omega arith }
 
 -- or for 4096
-pub full_room : (cells : List ℕ) (m : ℕ) → LEAVES_MAX * 8 ≤ length cells → LeafRoom cells m
-full_room cells m h = record { room = λ i a b. omega arith }
+pub full_room : (held : List HeldLeaf) (m : ℕ) → LEAVES_MAX ≤ length held → LeafRoom held m
+full_room held m h = record { room = λ i a b. omega arith }

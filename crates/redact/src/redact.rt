@@ -12,26 +12,27 @@ ghost use Rattle.refusal.specs.Limits.{INPUT_MAX, TEXT_MAX};
 
 use entries::returned::{ReturnedReport, finish_report, is_short, refuse_report};
 use er7_message::message;
+use er7_table::table::{Leaf, NO_LEAF, NO_SEGMENT, SEGMENT_ROWS, Segment};
 use policy::policy::{Policy, parse};
 use redact_1_run::from_tables::{Redacted, redact_from};
 use refusal::limits::LEAVES_MAX;
 use refusal::{Refusal, Refused};
 
-// The message as a policy leaves it, whose text is text, at the front of output, and its rows at that of report; segs and cells are for its tables.
+// The message as a policy leaves it, whose text is text, at the front of output, and its rows at that of report; segments and leaves are for its tables.
 fn redact_in(
     message: &[u8],
-    policy: Policy,
+    policy: &Policy,
     text: &[u8],
     key: u64,
-    segs: &mut [usize; 2056],
-    cells: &mut [usize],
+    segments: &mut [Segment; SEGMENT_ROWS],
+    leaves: &mut [Leaf],
     output: &mut [u8],
     report: &mut [u8],
 ) -> Result<Redacted, Refused>
-    requires { PolicyHeld text.now policy × (length text.now ≤ INPUT_MAX) × LeafRoom cells.old (length message.now) × (TEXT_MAX ≤ length output.old) }
-    ensures { AnsweredAs (without_fault (message_fault message.now) (reported (length report.old) (Redact.redact key (as_policy text.now policy) (message_of message.now)))) output.new report.new result }
+    requires { PolicyHeld text.now policy.now × (length text.now ≤ INPUT_MAX) × LeafRoom leaves.old (length message.now) × (TEXT_MAX ≤ length output.old) }
+    ensures { AnsweredAs (without_fault (message_fault message.now) (reported (length report.old) (Redact.redact key (as_policy text.now policy.now) (message_of message.now)))) output.new report.new result }
 {
-    let layout = message::parse(message, segs, cells)?;
+    let layout = message::parse(message, segments, leaves)?;
     let redacted = redact_from(
         policy,
         text,
@@ -39,8 +40,8 @@ fn redact_in(
         message,
         layout,
         message.len(),
-        segs,
-        cells,
+        segments,
+        leaves,
         output,
         report,
     )?;
@@ -53,25 +54,39 @@ fn redact_in(
 // The same, with tables for as many leaves as a short message can have, or for 4096.
 fn redact_message(
     message: &[u8],
-    policy: Policy,
+    policy: &Policy,
     text: &[u8],
     key: u64,
     output: &mut [u8],
     report: &mut [u8],
 ) -> Result<Redacted, Refused>
-    requires { PolicyHeld text.now policy × (length text.now ≤ INPUT_MAX) × (TEXT_MAX ≤ length output.old) }
-    ensures { AnsweredAs (without_fault (message_fault message.now) (reported (length report.old) (Redact.redact key (as_policy text.now policy) (message_of message.now)))) output.new report.new result }
+    requires { PolicyHeld text.now policy.now × (length text.now ≤ INPUT_MAX) × (TEXT_MAX ≤ length output.old) }
+    ensures { AnsweredAs (without_fault (message_fault message.now) (reported (length report.old) (Redact.redact key (as_policy text.now policy.now) (message_of message.now)))) output.new report.new result }
 {
-    let mut segs = [0usize; 2056];
+    let mut segments = [NO_SEGMENT; SEGMENT_ROWS];
     if message.len() <= 1024 {
-        let mut few = [0usize; 8192];
+        let mut few = [NO_LEAF; 1024];
         return redact_in(
-            message, policy, text, key, &mut segs, &mut few, output, report,
+            message,
+            policy,
+            text,
+            key,
+            &mut segments,
+            &mut few,
+            output,
+            report,
         );
     }
-    let mut cells = [0usize; LEAVES_MAX * 8];
+    let mut leaves = [NO_LEAF; LEAVES_MAX];
     redact_in(
-        message, policy, text, key, &mut segs, &mut cells, output, report,
+        message,
+        policy,
+        text,
+        key,
+        &mut segments,
+        &mut leaves,
+        output,
+        report,
     )
 }
 
@@ -87,7 +102,7 @@ fn redact_by(
     ensures { AnsweredAs (with_policy (read_policy policy.now) λ P. without_fault (message_fault message.now) (reported (length report.old) (Redact.redact key P (message_of message.now)))) output.new report.new result }
 {
     let held = parse(policy)?;
-    redact_message(message, held, policy, key, output, report)
+    redact_message(message, &held, policy, key, output, report)
 }
 
 // The message as the policy leaves it, in output, and a row for each change, in report; or a refusal. The scratch is zeroed.

@@ -1,5 +1,5 @@
 -- Laws of the turns of a run, one behind the other. Assumes nothing.
-use Rattle.std.proofs.Common.{◌≡◌, refl, sym, ◌∙◌, Bool, true, false, cond, List, [], ◌∷◌, ◌++◌, ℕ, ◌+◌, ◌≤◌, ◌<◌, eqb, eqb-true, length, take, get_or, get_or-take, length-take, arith, Result, Ok, Err}
+use Rattle.std.proofs.Common.{le_refl, ◌≡◌, refl, sym, ◌∙◌, Bool, true, false, cond, List, [], ◌∷◌, ◌++◌, ℕ, ◌+◌, ◌≤◌, ◌<◌, eqb, eqb-true, length, get_or, arith, Result, Ok, Err}
 use Rattle.std.proofs.Math.Option.{Option, none}
 use Rattle.text.specs.Text.{Text}
 use Rattle.refusal.specs.declared.Refusal.{Refusal}
@@ -14,12 +14,12 @@ use Rattle.policy_model.specs.Policy.{Policy}
 use Rattle.policy.specs.Policy.{as_rules, as_policy, PolicyHeld}
 use Rattle.policy.specs.Line.{PostureHeld}
 use Rattle.policy.specs.declared.policy.Policy.{Policy as HeldPolicy}
+use Rattle.er7_table.specs.declared.table.Segment.{Segment as HeldSegment}
 use Rattle.run_model.specs.Redact.{Progress, stopped, after_events, over_segments, segments_events, longest_found, action_in, for_sweep}
 use Rattle.run_model.proofs.Chains.{cond_both}
 use Rattle.redact_5_act.specs.Known.{known_from}
 use Rattle.redact_5_act.specs.declared.state.Setting.{Setting}
 use Rattle.redact_5_act.specs.declared.state.Counters.{Counters}
-use Rattle.refusal.specs.declared.Refusal.{Refusal}
 use Rattle.redact_4_leaf.specs.Walk.{Pass}
 use Rattle.redact_4_leaf.specs.State.{Buffers, knowing, known_now}
 use Rattle.redact_4_leaf.specs.Visit.{unnamed_pass}
@@ -33,7 +33,8 @@ use Rattle.redact_2_turn.proofs.Turns.{leaves_same, leaves_silent}
 use Rattle.redact_1_run.specs.Turns.{Task, tasks_of, ruled, judged, swept, pass_for, segments_by, progress_by, after_tasks, progress_tasks, RuleTurn, PostureTurn, turn_of_sweep}
 use Rattle.redact_1_run.specs.Stage.{Stage, Stands, TurnReady, Begun, Inputs}
 use Rattle.redact_1_run.proofs.Stages.{turn_sound, progress_knows, stands_next, stage_turn_ready, stands_later}
-use Rattle.redact_1_run.proofs.Tasks.{tasks_progress, next_pass, task_after, task_progress, rules_to, rules_more, left, rules_left, posture_left}
+use Rattle.redact_1_run.proofs.Tasks.{tasks_progress, next_pass, task_after, task_progress, rules_to, all_rules, rules_more, left, rules_left, rules_ended, posture_left}
+use Rattle.redact_5_act.specs.declared.known.Known.{Known as HeldKnown}
 
 -- ---- passes that do the same
 
@@ -71,7 +72,7 @@ idle_alike key s ss =
       says = segments_silent (unnamed_pass key s (λ t. none)) a ss ∙ sym (segments_silent (unnamed_pass key s (for_sweep s [])) b ss);
     }
 
-none_known : (text bytes : Text) (known : List ℕ) (c : Counters) → c.known ≡ 0 → known_now text bytes known c ≡ []
+none_known : (text bytes : Text) (known : List HeldKnown) (c : Counters) → c.known ≡ 0 → known_now text bytes known c ≡ []
 unfolding known_now known_from
 none_known text bytes known c e = rw e
 
@@ -111,7 +112,7 @@ module _ (text : Text) (policy : HeldPolicy) where
 
 -- ---- some turns are taken
 
-module _ (text : Text) (segs : List ℕ) (on : Setting) (policy : HeldPolicy) (β₀ : Buffers) (c₀ : Counters) where
+module _ (text : Text) (segs : List HeldSegment) (on : Setting) (policy : HeldPolicy) (β₀ : Buffers) (c₀ : Counters) where
   abbrev P : Policy
   P = as_policy text policy
 
@@ -165,7 +166,7 @@ module _ (text : Text) (segs : List ℕ) (on : Setting) (policy : HeldPolicy) (�
 
 -- ---- the turns of a policy
 
-module _ (text : Text) (segs : List ℕ) (on : Setting) (policy : HeldPolicy) (β₀ : Buffers) (c₀ : Counters) (q : on.sweep ≡ policy.sweep) (l : Inputs text segs on) (p : PolicyHeld text policy) where
+module _ (text : Text) (segs : List HeldSegment) (on : Setting) (policy : HeldPolicy) (β₀ : Buffers) (c₀ : Counters) (q : on.sweep ≡ policy.sweep) (l : Inputs text segs on) (p : PolicyHeld text policy) where
   -- what is taken with that turn
   abbrev pub Next : Buffers → Counters → Turn → Buffers → Result Counters Refusal → Type 0
   Next β c turn β' r = TurnTaken (λ ks. pass_of on.key on.separators text ks turn) on segs text β c β' r
@@ -175,53 +176,53 @@ module _ (text : Text) (segs : List ℕ) (on : Setting) (policy : HeldPolicy) (�
   Ended β r = (x : ℕ) (cr : Bool) (ss : List Segment) (b : Progress) → Stage x cr text segs on 0 ss b β₀ c₀
       → Stands x cr text segs on 130 (after_tasks on.key on.separators (as_policy text policy) (tasks_of (as_policy text policy)) ss b) (progress_tasks on.key on.separators (as_policy text policy) (tasks_of (as_policy text policy)) ss b) β r
 
-  -- k rules' turns are taken
-  module _ {k : ℕ} {β : Buffers} {c : Counters} (w : Taken text segs on policy β₀ c₀ k (rules_to text policy k) β (Ok c)) where
+  -- k rules' turns are taken; rs are the rules
+  module _ {k : ℕ} {β : Buffers} {c : Counters} (w : Taken text segs on policy β₀ c₀ k (rules_to text policy k) β (Ok c)) {rs : List HeldRule} (e : rs ≡ policy.rules) where
     -- that of rule k is next
-    module _ (h : k < length (take policy.count policy.rules)) (z : HeldRule) {turn : Turn} (t : RuleTurn (get_or (take policy.count policy.rules) k z) turn) where
-      low : k < policy.count
-      low = omega (arith, length-take policy.count policy.rules, h)
+    module _ (h : k < length rs) (z : HeldRule) {turn : Turn} (t : RuleTurn (get_or rs k z) turn) where
+      low : k < length policy.rules
+      low = rw e at h
 
       turn_for : TurnFor text policy (ruled (as_rule text (get_or policy.rules k z))) c turn
-      turn_for =
-          let e : get_or (take policy.count policy.rules) k z ≡ get_or policy.rules k z = get_or-take policy.count policy.rules k z low in
-          let a = p.rules.each k z low in
-          rule_for text policy a.path a.action (rw e at t)
+      turn_for = let a = p.rules.each k z low in rule_for text policy a.path a.action (rw e at t)
 
       pub rule_asks : Begun text segs on β₀ c₀ → TurnHeld text turn × Inputs text segs on × TurnReady text segs on β c
       rule_asks g = (turn_for.held, l, taken_ready text segs on policy β₀ c₀ l (omega (arith, low, p.few)) g w)
 
       module _ {β' : Buffers} {r : Result Counters Refusal} (n : Next β c turn β' r) where
         pub rule_made : {c' : Counters} → r ≡ Ok c' → Taken text segs on policy β₀ c₀ (k + 1) (rules_to text policy (k + 1)) β' (Ok c')
-        rule_made e = rw (rules_more text policy p low z, ← e) (taken_more text segs on policy β₀ c₀ q l (rules_to text policy k) w _ turn turn_for r n)
+        rule_made f = rw (rules_more text policy low z, ← f) (taken_more text segs on policy β₀ c₀ q l (rules_to text policy k) w _ turn turn_for r n)
 
         pub rule_refused : {x : Refusal} → r ≡ Err x → Ended β' (Err x)
-        rule_refused e = rw (rules_left text policy p low z) (taken_stops text segs on policy β₀ c₀ (left text policy p low z) (rw e at (taken_more text segs on policy β₀ c₀ q l (rules_to text policy k) w _ turn turn_for r n)))
+        rule_refused f = rw (rules_left text policy low z) (taken_stops text segs on policy β₀ c₀ (left text policy low z) (rw f at (taken_more text segs on policy β₀ c₀ q l (rules_to text policy k) w _ turn turn_for r n)))
 
     -- they were all, and the posture's is next
-    module _ (high : k ≤ length (take policy.count policy.rules)) (h : length (take policy.count policy.rules) ≤ k) {turn : Turn} (t : PostureTurn policy.posture turn) where
-      all : k ≡ policy.count
-      all = omega (arith, length-take policy.count policy.rules, high, h, p.long, p.few)
+    module _ (high : k ≤ length rs) (h : length rs ≤ k) {turn : Turn} (t : PostureTurn policy.posture turn) where
+      all : k ≡ length policy.rules
+      all = let a : k ≡ length rs = omega (arith, high, h) in rw e at a
+
+      all_taken : Taken text segs on policy β₀ c₀ (length policy.rules) (all_rules text policy) β (Ok c)
+      all_taken = rw (all, rules_ended text policy (le_refl (length policy.rules))) at w
 
       pub posture_asks : Begun text segs on β₀ c₀ → TurnHeld text turn × Inputs text segs on × TurnReady text segs on β c
-      posture_asks g = (t.held text p.posture, l, taken_ready text segs on policy β₀ c₀ l (omega (arith, all, p.few)) g w)
+      posture_asks g = (t.held text p.posture, l, taken_ready text segs on policy β₀ c₀ l (omega (arith, p.few)) g all_taken)
 
       module _ {β' : Buffers} {r : Result Counters Refusal} (n : Next β c turn β' r) where
-        judged_taken : Taken text segs on policy β₀ c₀ (policy.count + 1) (rules_to text policy policy.count ++ (judged ∷ [])) β' r
-        judged_taken = rw all at (taken_more text segs on policy β₀ c₀ q l (rules_to text policy k) w judged turn (posture_for text policy p.posture t) r n)
+        judged_taken : Taken text segs on policy β₀ c₀ (length policy.rules + 1) (all_rules text policy ++ (judged ∷ [])) β' r
+        judged_taken = taken_more text segs on policy β₀ c₀ q l (all_rules text policy) all_taken judged turn (posture_for text policy p.posture t) r n
 
-        pub posture_made : {c' : Counters} → r ≡ Ok c' → Taken text segs on policy β₀ c₀ (policy.count + 1) (rules_to text policy policy.count ++ (judged ∷ [])) β' (Ok c')
-        posture_made e = rw e at judged_taken
+        pub posture_made : {c' : Counters} → r ≡ Ok c' → Taken text segs on policy β₀ c₀ (length policy.rules + 1) (all_rules text policy ++ (judged ∷ [])) β' (Ok c')
+        posture_made f = rw f at judged_taken
 
         pub posture_refused : {x : Refusal} → r ≡ Err x → Ended β' (Err x)
-        posture_refused e = rw (posture_left text policy) (taken_stops text segs on policy β₀ c₀ (swept ∷ []) (rw e at judged_taken))
+        posture_refused f = rw (posture_left text policy) (taken_stops text segs on policy β₀ c₀ (swept ∷ []) (rw f at judged_taken))
 
   -- the sweep's is next
-  module _ {β : Buffers} {c : Counters} (w : Taken text segs on policy β₀ c₀ (policy.count + 1) (rules_to text policy policy.count ++ (judged ∷ [])) β (Ok c)) {turn : Turn} (t : turn ≡ turn_of_sweep c.known) where
+  module _ {β : Buffers} {c : Counters} (w : Taken text segs on policy β₀ c₀ (length policy.rules + 1) (all_rules text policy ++ (judged ∷ [])) β (Ok c)) {turn : Turn} (t : turn ≡ turn_of_sweep c.known) where
     pub sweep_asks : Begun text segs on β₀ c₀ → TurnHeld text turn × Inputs text segs on × TurnReady text segs on β c
     sweep_asks g = ((sweep_for text policy {c = c} t).held, l, taken_ready text segs on policy β₀ c₀ l (omega (arith, p.few)) g w)
 
     pub sweep_ends : {β' : Buffers} (r : Result Counters Refusal) → Next β c turn β' r → Ended β' r
     sweep_ends r n =
         rw (posture_left text policy)
-        (taken_all text segs on policy β₀ c₀ r (omega (arith, p.few)) (taken_more text segs on policy β₀ c₀ q l (rules_to text policy policy.count ++ (judged ∷ [])) w swept turn (sweep_for text policy t) r n))
+        (taken_all text segs on policy β₀ c₀ r (omega (arith, p.few)) (taken_more text segs on policy β₀ c₀ q l (all_rules text policy ++ (judged ∷ [])) w swept turn (sweep_for text policy t) r n))

@@ -1,6 +1,6 @@
 -- The fields of the leaves of a segment are in order, since each leaf stands next to the one before it. Assumes nothing.
 use mathlib.Core.Path.{◌≡◌, refl, ap}
-use mathlib.Core.Bool.{Bool}
+use mathlib.Core.Bool.{Bool, false}
 use mathlib.Core.List.{List, ◌∷◌}
 use mathlib.Core.Option.{Option, none, some}
 use Prim.Native.Nat.{ℕ, zero, suc, ◌+◌, ◌-◌, ◌≤◌, ◌<◌}
@@ -11,7 +11,9 @@ use Rattle.text.proofs.Laws.{split}
 use Rattle.er7.specs.declared.message.Place.{Place}
 use Rattle.message_model.specs.Message.{Leaf, leaf, Label, at_field}
 use Rattle.message_model.specs.Chain.{Piece, a_field, a_repetition, a_component, a_subcomponent, next_place, Chain, Chained}
-use Rattle.er7_table.specs.Table.{cell, list_of, place_at, stored_text, leaf_at, first_leaf, label_at}
+use Rattle.er7_table.specs.declared.table.Leaf.{Leaf as HeldLeaf}
+use Rattle.er7_table.specs.declared.table.Segment.{Segment as HeldSegment}
+use Rattle.er7_table.specs.Table.{leaf_row, list_of, place_at, stored_text, leaf_at, first_leaf, label_at}
 use Rattle.redact_4_leaf.specs.Walk.{segment_of}
 use Rattle.redact_4_leaf.specs.State.{Buffers, leaves, marked}
 use Rattle.redact_4_leaf.proofs.Acting.{live_text}
@@ -41,18 +43,18 @@ stepped : (p q : Place) (b : Bool) (o : Option Text) (xs : List Leaf) → Chain 
 stepped p q b none xs c = record { place = p; low = omega arith; high = omega arith; rest = c; live = λ t e. let z : ◌≡◌ {A = ℕ} 0 1 = cc in absurd (omega arith) }
 stepped p q b (some t) xs ((k, e), c) = record { place = q; low = rw e (step_low k p); high = rw e (step_high k p); rest = c; live = λ u f. refl }
 
-module _ (m : ℕ → Bool) (cells : List ℕ) (store : Text) where
-  step_at : (i n : ℕ) (p : Place) → Chain p (list_of (leaf_at m cells store) i (suc n)) → Stepped p (place_at cells i) (stored_text cells store i) (list_of (leaf_at m cells store) (suc i) n)
+module _ (m : ℕ → Bool) (held : List HeldLeaf) (store : Text) where
+  step_at : (i n : ℕ) (p : Place) → Chain p (list_of (leaf_at m held store) i (suc n)) → Stepped p (place_at held i) (stored_text held store i) (list_of (leaf_at m held store) (suc i) n)
   unfolding list_of leaf_at
-  step_at i n p c = stepped p (place_at cells i) (m i) (stored_text cells store i) (list_of (leaf_at m cells store) (suc i) n) c
+  step_at i n p c = stepped p (place_at held i) (m i) (stored_text held store i) (list_of (leaf_at m held store) (suc i) n) c
 
   -- the field of the place behind a leaf that has not vanished
-  field_behind : (i n : ℕ) (p : Place) (s : Stepped p (place_at cells i) (stored_text cells store i) (list_of (leaf_at m cells store) (suc i) n)) → cell cells i 3 ≡ 0 → s.place.field ≡ cell cells i 4
+  field_behind : (i n : ℕ) (p : Place) (s : Stepped p (place_at held i) (stored_text held store i) (list_of (leaf_at m held store) (suc i) n)) → (leaf_row held i).gone ≡ false → s.place.field ≡ (leaf_row held i).place.field
   unfolding place_at
-  field_behind i n p s e = ap (λ (q : Place). q.field) (s.live _ (live_text cells store i e))
+  field_behind i n p s e = ap (λ (q : Place). q.field) (s.live _ (live_text held store i e))
 
-  chain_fields : (n i : ℕ) (p : Place) → Chain p (list_of (leaf_at m cells store) i n) → (j : ℕ) → i ≤ j → j < i + n → cell cells j 3 ≡ 0
-      → (p.field ≤ cell cells j 4) × (cell cells j 4 ≤ p.field + (j - i) + 1)
+  chain_fields : (n i : ℕ) (p : Place) → Chain p (list_of (leaf_at m held store) i n) → (j : ℕ) → i ≤ j → j < i + n → (leaf_row held j).gone ≡ false
+      → (p.field ≤ (leaf_row held j).place.field) × ((leaf_row held j).place.field ≤ p.field + (j - i) + 1)
   chain_fields zero i p c j a b e = absurd (omega arith)
   chain_fields (suc n) i p c j a b e =
       let s = step_at i n p c in
@@ -60,8 +62,8 @@ module _ (m : ℕ → Bool) (cells : List ℕ) (store : Text) where
       (λ h. let r = chain_fields n (suc i) s.place s.rest j h (omega arith) e in (omega (arith, r.0, s.low), omega (arith, r.1, s.high)))
       (λ h. let q : j ≡ i = omega arith in let f = field_behind i n p s (rw q at e) in rw q (omega (arith, f, s.low), omega (arith, f, s.high)))
 
-  chain_rises : (n i : ℕ) (p : Place) → Chain p (list_of (leaf_at m cells store) i n) → (j k : ℕ) → i ≤ j → j ≤ k → k < i + n → cell cells j 3 ≡ 0 → cell cells k 3 ≡ 0
-      → cell cells j 4 ≤ cell cells k 4
+  chain_rises : (n i : ℕ) (p : Place) → Chain p (list_of (leaf_at m held store) i n) → (j k : ℕ) → i ≤ j → j ≤ k → k < i + n → (leaf_row held j).gone ≡ false → (leaf_row held k).gone ≡ false
+      → (leaf_row held j).place.field ≤ (leaf_row held k).place.field
   chain_rises zero i p c j k a b l e f = absurd (omega arith)
   chain_rises (suc n) i p c j k a b l e f =
       let s = step_at i n p c in
@@ -69,12 +71,12 @@ module _ (m : ℕ → Bool) (cells : List ℕ) (store : Text) where
       (λ h. chain_rises n (suc i) s.place s.rest j k h b (omega arith) e f)
       (λ h. let q : j ≡ i = omega arith in let g = field_behind i n p s (rw q at e) in behind s q g)
     where
-      behind : (s : Stepped p (place_at cells i) (stored_text cells store i) (list_of (leaf_at m cells store) (suc i) n)) → j ≡ i → s.place.field ≡ cell cells i 4 → cell cells j 4 ≤ cell cells k 4
+      behind : (s : Stepped p (place_at held i) (stored_text held store i) (list_of (leaf_at m held store) (suc i) n)) → j ≡ i → s.place.field ≡ (leaf_row held i).place.field → (leaf_row held j).place.field ≤ (leaf_row held k).place.field
       behind s q g =
           split i k (λ h. rw q (omega (arith, g, (chain_fields n (suc i) s.place s.rest k h (omega arith) f).0)))
           (λ h. let r : k ≡ j = omega arith in rw r (omega arith))
 
-  chain_ordered : (first end : ℕ) → Chain (at_field 0) (list_of (leaf_at m cells store) first (end - first)) → Ordered cells first end
+  chain_ordered : (first end : ℕ) → Chain (at_field 0) (list_of (leaf_at m held store) first (end - first)) → Ordered held first end
   unfolding at_field
   chain_ordered first end c = record {
     rising = record { rise = λ i j a b l e f. chain_rises (end - first) first (at_field 0) c i j a b (omega arith) e f };
@@ -88,7 +90,7 @@ chain_at labels firsts f zero i c k a l = absurd (omega arith)
 chain_at labels firsts f (suc n) i c k a l =
     split i k (λ h. chain_at labels firsts f n (suc i) c.1 k h (omega arith)) (λ h. let q : k ≡ i = omega arith in rw q c.0)
 
-pub chained_ordered : (segs : List ℕ) (m : ℕ) (β : Buffers) → Chained (list_of (segment_of (label_at segs) (first_leaf segs) (leaves β)) 0 m) → AllOrdered segs β.cells m
+pub chained_ordered : (segs : List HeldSegment) (m : ℕ) (β : Buffers) → Chained (list_of (segment_of (label_at segs) (first_leaf segs) (leaves β)) 0 m) → AllOrdered segs β.held m
 chained_ordered segs m β c = record {
-  ordered = λ k h. rw add-one (chain_ordered (marked β.named) β.cells β.store (first_leaf segs k) (first_leaf segs (suc k)) (chain_at (label_at segs) (first_leaf segs) (leaves β) m 0 c k (omega arith) (omega arith)));
+  ordered = λ k h. rw add-one (chain_ordered (marked β.named) β.held β.store (first_leaf segs k) (first_leaf segs (suc k)) (chain_at (label_at segs) (first_leaf segs) (leaves β) m 0 c k (omega arith) (omega arith)));
 }

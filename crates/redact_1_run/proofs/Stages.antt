@@ -19,6 +19,7 @@ use Rattle.run_model.specs.Order.{FieldsFirst}
 use Rattle.run_model.specs.Redact.{Known, Row, Progress, running, stopped, known_in, after_events, over_segments, segments_events, for_posture, for_sweep, after_rule}
 use Rattle.run_model.proofs.Chains.{rule_chained, rule_fields_first, unnamed_chained, unnamed_fields_first}
 use Rattle.run_model.proofs.Sizes.{Moves, rule_sizes, unnamed_sizes, progress_size}
+use Rattle.er7_table.specs.declared.table.Segment.{Segment as HeldSegment}
 use Rattle.er7_table.specs.Table.{list_of, first_leaf, label_at, Segmented}
 use Rattle.redact_5_act.specs.declared.state.Setting.{Setting}
 use Rattle.redact_5_act.specs.declared.state.Counters.{Counters}
@@ -67,7 +68,7 @@ turn_sound key s cr text ks Idle = unnamed_sound key s cr (λ t. none)
 
 -- ---- a turn
 
-module _ {x : ℕ} {cr : Bool} {text : Text} {segs : List ℕ} {on : Setting} {turns : ℕ} {ss : List Segment} {b : Progress} {β : Buffers} {c : Counters} (g : Stage x cr text segs on turns ss b β c) where
+module _ {x : ℕ} {cr : Bool} {text : Text} {segs : List HeldSegment} {on : Setting} {turns : ℕ} {ss : List Segment} {b : Progress} {β : Buffers} {c : Counters} (g : Stage x cr text segs on turns ss b β c) where
   -- what is known stands in the progress
   pub progress_knows : knowing text β c ≡ known_in b
   unfolding known_in
@@ -123,7 +124,7 @@ module _ {x : ℕ} {cr : Bool} {text : Text} {segs : List ℕ} {on : Setting} {t
 
 -- ---- what a turn asks for, and what it leaves
 
-module _ {x : ℕ} {cr : Bool} {text : Text} {segs : List ℕ} {on : Setting} {turns : ℕ} {ss : List Segment} {b : Progress} {β : Buffers} where
+module _ {x : ℕ} {cr : Bool} {text : Text} {segs : List HeldSegment} {on : Setting} {turns : ℕ} {ss : List Segment} {b : Progress} {β : Buffers} where
   pub stage_turn_ready : {c : Counters} → Segmented segs on.segments on.leaves → turns ≤ 130 → Stage x cr text segs on turns ss b β c → TurnReady text segs on β c
   stage_turn_ready {c} z few g =
       let l = live_printed on.separators cr (marked β.named) g.held.good (label_at segs) (first_leaf segs) on.segments z.order z.all z.none_before in

@@ -1,13 +1,13 @@
 -- Laws of the tasks of a policy, one behind the other. Assumes nothing.
-use Rattle.std.proofs.Common.{◌≡◌, refl, sym, ap, ◌∙◌, Bool, List, [], ◌∷◌, ◌++◌, map, append_assoc, ℕ, ◌+◌, ◌<◌, get_or, arith}
-use mathlib.Core.List.{map-append}
+use Rattle.std.proofs.Common.{◌≡◌, refl, sym, ap, ◌∙◌, Bool, List, [], ◌∷◌, ◌++◌, map, append_assoc, ℕ, ◌+◌, ◌≤◌, ◌<◌, length, take, take_all, get_or}
+use Rattle.std.proofs.lemmas.List.{map-append}
 use Rattle.text.specs.Text.{Text}
 use Rattle.er7.specs.declared.separators.Separators.{Separators}
 use Rattle.er7_redact.specs.Policy.{Rule, as_rule}
 use Rattle.er7_redact.specs.declared.policy.Rule.{Rule as HeldRule}
 use Rattle.message_model.specs.Message.{Segment, Message}
 use Rattle.policy_model.specs.Policy.{Policy}
-use Rattle.policy.specs.Policy.{as_rules, as_policy, PolicyHeld}
+use Rattle.policy.specs.Policy.{as_rules, as_policy}
 use Rattle.policy.specs.declared.policy.Policy.{Policy as HeldPolicy}
 use Rattle.policy.proofs.Rules.{behind, rules_step, rules_split}
 use Rattle.run_model.specs.Redact.{Progress, running, known_in, after_events, over_segments, segments_events, unnamed_leaf, unnamed_events, after_rule, after_rules, rules_events, for_posture, before_sweep, events_before_sweep, progress_before_sweep, redacted_as, swept as sweptAs, redact_from}
@@ -91,25 +91,31 @@ tasks_redact key size P m = tasks_run key m.separators P m.last_cr m.segments si
 module _ (text : Text) (policy : HeldPolicy) where
   -- those of its first k rules, and of all
   abbrev pub rules_to : ℕ → List Task
-  rules_to k = map ruled (as_rules text policy.rules k)
+  rules_to k = map ruled (as_rules text (take k policy.rules))
 
-  module _ (p : PolicyHeld text policy) {k : ℕ} (h : k < policy.count) (z : HeldRule) where
+  abbrev pub all_rules : List Task
+  all_rules = map ruled (as_rules text policy.rules)
+
+  module _ {k : ℕ} (h : k < length policy.rules) (z : HeldRule) where
     abbrev this : Task
     this = ruled (as_rule text (get_or policy.rules k z))
 
     pub rules_more : rules_to (k + 1) ≡ rules_to k ++ (this ∷ [])
-    rules_more = rw (rules_step text policy.rules k z (omega (arith, p.long, p.few))) (map-append ruled (as_rules text policy.rules k) (as_rule text (get_or policy.rules k z) ∷ []))
+    rules_more = rw (rules_step text policy.rules k z h) (map-append ruled (as_rules text (take k policy.rules)) (as_rule text (get_or policy.rules k z) ∷ []))
 
     -- what is left behind it
     abbrev pub left : List Task
-    left = map ruled (behind text policy.rules k z policy.count) ++ (judged ∷ swept ∷ [])
+    left = map ruled (behind text policy.rules k) ++ (judged ∷ swept ∷ [])
 
     pub rules_left : tasks_of (as_policy text policy) ≡ (rules_to k ++ (this ∷ [])) ++ left
     unfolding tasks_of as_policy
     rules_left =
-        rw (← rules_more, rules_split text policy.rules k z policy.count h (omega (arith, p.long, p.few)), map-append ruled (as_rules text policy.rules (k + 1)) (behind text policy.rules k z policy.count))
-        (append_assoc (rules_to (k + 1)) (map ruled (behind text policy.rules k z policy.count)) (judged ∷ swept ∷ []))
+        rw (← rules_more, rules_split text policy.rules k, map-append ruled (as_rules text (take (k + 1) policy.rules)) (behind text policy.rules k))
+        (append_assoc (rules_to (k + 1)) (map ruled (behind text policy.rules k)) (judged ∷ swept ∷ []))
 
-  pub posture_left : tasks_of (as_policy text policy) ≡ (rules_to policy.count ++ (judged ∷ [])) ++ (swept ∷ [])
+  pub rules_ended : {k : ℕ} → length policy.rules ≤ k → rules_to k ≡ all_rules
+  rules_ended {k} h = rw (take_all k policy.rules h) refl
+
+  pub posture_left : tasks_of (as_policy text policy) ≡ (all_rules ++ (judged ∷ [])) ++ (swept ∷ [])
   unfolding tasks_of as_policy
-  posture_left = sym (append_assoc (rules_to policy.count) (judged ∷ []) (swept ∷ []))
+  posture_left = sym (append_assoc all_rules (judged ∷ []) (swept ∷ []))

@@ -6,7 +6,9 @@ use Rattle.message_model.specs.Chain.{Chained}
 use Rattle.run_model.specs.Order.{FieldsFirst}
 use Rattle.run_model.specs.Redact as R
 use Rattle.run_model.specs.Redact.{Row}
-use Rattle.er7_table.specs.Table.{Good, Segmented, AllNamed}
+use Rattle.er7_table.specs.declared.table.Leaf.{Leaf as HeldLeaf}
+use Rattle.er7_table.specs.declared.table.Segment.{Segment as HeldSegment}
+use Rattle.er7_table.specs.Table.{Good, Segmented}
 use Rattle.er7_message.specs.Parsed.{Standing}
 use Rattle.er7_message.specs.declared.message.Layout.{Layout}
 use Rattle.er7_render.specs.Rendered.{rendered}
@@ -18,32 +20,30 @@ use Rattle.refusal.specs.Limits.{INPUT_MAX, TEXT_MAX}
 
 -- a message that was read stands in the tables, over its bytes t; `size` bytes are there when its turn begins: its own, and those beside it
 -- in its file
-pub record Loaded (t : Text) (m : Message) (policy : Text) (size : ℕ) (layout : Layout) (segs cells : List ℕ) : Type 0 where
-  pub standing : Standing t m segs cells layout
+pub record Loaded (t : Text) (m : Message) (policy : Text) (size : ℕ) (layout : Layout) (segs : List HeldSegment) (held : List HeldLeaf) : Type 0 where
+  pub standing : Standing t m segs held layout
   pub prints : print_message m ≡ t
   pub chained : Chained m.segments
   pub first : FieldsFirst m.segments
-  pub named : AllNamed segs layout.segments
   pub policy_short : length policy ≤ INPUT_MAX
   pub within : length t ≤ size
   pub most : size ≤ TEXT_MAX
 
 -- some message was read
-pub record AnyLoaded (t policy : Text) (size : ℕ) (layout : Layout) (segs cells : List ℕ) : Type 0 where
+pub record AnyLoaded (t policy : Text) (size : ℕ) (layout : Layout) (segs : List HeldSegment) (held : List HeldLeaf) : Type 0 where
   pub message : Message
-  pub loaded : Loaded t message policy size layout segs cells
+  pub loaded : Loaded t message policy size layout segs held
 
 -- the tables print as a text of len bytes
-pub record Printable (layout : Layout) (segs cells : List ℕ) (store : Text) (len : ℕ) : Type 0 where
+pub record Printable (layout : Layout) (segs : List HeldSegment) (held : List HeldLeaf) (store : Text) (len : ℕ) : Type 0 where
   pub segmented : Segmented segs layout.segments layout.leaves
-  pub named : AllNamed segs layout.segments
-  pub good : Good cells store layout.leaves (length store)
-  pub long : len ≡ length (rendered layout segs cells store)
+  pub good : Good held store layout.leaves (length store)
+  pub long : len ≡ length (rendered layout segs held store)
 
 -- the run is over: the tables print as the text, and the report holds the rows
-pub record Ran (d : R.Redacted) (layout : Layout) (segs cells : List ℕ) (store report : Text) (c : Counters) : Type 0 where
+pub record Ran (d : R.Redacted) (layout : Layout) (segs : List HeldSegment) (held : List HeldLeaf) (store report : Text) (c : Counters) : Type 0 where
   pub rows : List Row
-  pub is : d ≡ R.done (rendered layout segs cells store) rows
+  pub is : d ≡ R.done (rendered layout segs held store) rows
   pub count : c.rows ≡ length rows
   pub reported : Reported report c.report_len rows
 

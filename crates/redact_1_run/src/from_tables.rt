@@ -10,11 +10,12 @@ ghost use Rattle.redact_1_run.specs.Ran.{Loaded, AnyLoaded, Printable, Ran, Reda
 use super::run::run_turns;
 use er7_message::message::Layout;
 use er7_render::render::render;
+use er7_table::table::{Leaf, SEGMENT_ROWS, Segment};
 use policy::policy::Policy;
-use redact_5_act::known::KNOWN_CELLS;
+use redact_5_act::known::UNKNOWN;
 use redact_5_act::state::{Counters, Setting};
 use refusal::Refusal;
-use refusal::limits::LEAVES_MAX;
+use refusal::limits::{LEARNT_MAX, LEAVES_MAX};
 use text::bytes::copy_at;
 
 // The state of a run: which leaves are named, and how far it has come.
@@ -35,18 +36,18 @@ pub struct Redacted {
 // Writes the text of len bytes that the tables print as to the front of output, if it has room for it.
 fn print_text(
     layout: Layout,
-    segs: &[usize; 2056],
-    cells: &[usize],
+    segments: &[Segment; SEGMENT_ROWS],
+    leaves: &[Leaf],
     store: &[u8; 98304],
     len: usize,
     c: Counters,
     output: &mut [u8],
 ) -> Redacted
-    requires { Printable layout segs.now cells.now store.now len }
-    ensures { (d : R.Redacted) (report : Text) → Ran d layout segs.now cells.now store.now report c → RedactedIs d output.old output.new report (Ok result) }
+    requires { Printable layout segments.now leaves.now store.now len }
+    ensures { (d : R.Redacted) (report : Text) → Ran d layout segments.now leaves.now store.now report c → RedactedIs d output.old output.new report (Ok result) }
 {
     if len <= output.len() {
-        render(segs, cells, store, layout, output);
+        render(segments, leaves, store, layout, output);
     }
     Redacted {
         text_len: len,
@@ -55,26 +56,26 @@ fn print_text(
     }
 }
 
-// Redacts a message whose tables stand in segs and cells, by a policy whose text is text. `size` bytes are there when its turn begins: its
+// Redacts a message whose tables stand in segments and leaves, by a policy whose text is text. `size` bytes are there when its turn begins: its
 // own, and those beside it in its file. Its text goes to the front of output, if there is room for it, and its rows to the front of report.
 pub fn redact_from(
-    policy: Policy,
+    policy: &Policy,
     text: &[u8],
     key: u64,
     message: &[u8],
     layout: Layout,
     size: usize,
-    segs: &[usize; 2056],
-    cells: &mut [usize],
+    segments: &[Segment; SEGMENT_ROWS],
+    leaves: &mut [Leaf],
     output: &mut [u8],
     report: &mut [u8],
 ) -> Result<Redacted, Refusal>
-    requires { PolicyHeld text.now policy × AnyLoaded message.now text.now size layout segs.now cells.old }
-    ensures { (m : Message) → Loaded message.now m text.now size layout segs.now cells.old → RedactedIs (redact_from size key (as_policy text.now policy) m) output.old output.new report.new result }
+    requires { PolicyHeld text.now policy.now × AnyLoaded message.now text.now size layout segments.now leaves.old }
+    ensures { (m : Message) → Loaded message.now m text.now size layout segments.now leaves.old → RedactedIs (redact_from size key (as_policy text.now policy.now) m) output.old output.new report.new result }
 {
     let mut store = [0u8; 98304];
     let mut bytes = [0u8; 65536];
-    let mut known = [0usize; KNOWN_CELLS];
+    let mut known = [UNKNOWN; LEARNT_MAX];
     let used = copy_at(&mut store, 0, message);
     let on = Setting {
         key,
@@ -98,9 +99,9 @@ pub fn redact_from(
         on,
         policy,
         text,
-        segs,
+        segments,
         &mut run.named,
-        cells,
+        leaves,
         &mut store,
         report,
         &mut bytes,
@@ -108,5 +109,5 @@ pub fn redact_from(
         &mut run.counters,
     )?;
     let len = (run.counters.size + used).saturating_sub(size);
-    Ok(print_text(layout, segs, cells, &store, len, run.counters, output))
+    Ok(print_text(layout, segments, leaves, &store, len, run.counters, output))
 }

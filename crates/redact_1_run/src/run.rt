@@ -1,6 +1,6 @@
 // The turns of a run: "Rules in policy order, each over segments in order; then a rejecting posture over unnamed leaves; then the sweep".
 ghost use Rattle.std.specs.Prelude.{◌≡◌, Bool, List, ℕ};
-ghost use Rattle.message_model.specs.Message.{Segment};
+ghost use Rattle.message_model.specs.Message as Message;
 ghost use Rattle.run_model.specs.Redact.{Progress};
 ghost use Rattle.policy.specs.Policy.{as_policy, PolicyHeld};
 ghost use Rattle.redact_5_act.specs.State.{after_step};
@@ -12,13 +12,14 @@ ghost use Rattle.redact_1_run.specs.Stage.{Stage, Stands, Begun, Inputs, TurnRea
 
 use er7_redact::policy::{Posture, Rule};
 use er7_render::store::make_room;
+use er7_table::table::{Leaf, SEGMENT_ROWS, Segment};
 use policy::policy::Policy;
 use redact_2_turn::turn::{Job, Turn, aim_of, take_turn};
-use redact_5_act::known::KNOWN_CELLS;
+use redact_5_act::known::Known;
 use redact_5_act::state::{Counters, Setting};
 use redact_6_row::reach::{Reach, reach_of};
 use refusal::Refusal;
-use refusal::limits::LEAVES_MAX;
+use refusal::limits::{LEARNT_MAX, LEAVES_MAX};
 
 // The turn of a rule.
 fn rule_turn(rule: Rule) -> Turn
@@ -56,15 +57,15 @@ fn sweep_turn(known: usize) -> Turn
 // Makes room for a turn: where the store has too little for one, the texts are moved together.
 fn with_room(
     n: usize,
-    cells: &mut [usize],
+    leaves: &mut [Leaf],
     store: &mut [u8; 98304],
     bytes: &mut [u8; 65536],
     counters: &mut Counters,
 )
-    requires { RoomFor n cells.old store.old counters.old }
-    ensures { MadeRoom n cells.old store.old bytes.old counters.old cells.new store.new bytes.new counters.new }
+    requires { RoomFor n leaves.old store.old counters.old }
+    ensures { MadeRoom n leaves.old store.old bytes.old counters.old leaves.new store.new bytes.new counters.new }
 {
-    counters.used = make_room(n, cells, store, bytes, counters.known_used, counters.used);
+    counters.used = make_room(n, leaves, store, bytes, counters.known_used, counters.used);
 }
 
 // The next turn.
@@ -72,55 +73,56 @@ fn next_turn(
     on: Setting,
     turn: Turn,
     text: &[u8],
-    segs: &[usize; 2056],
+    segments: &[Segment; SEGMENT_ROWS],
     named: &mut [bool; LEAVES_MAX],
-    cells: &mut [usize],
+    leaves: &mut [Leaf],
     store: &mut [u8; 98304],
     report: &mut [u8],
     bytes: &mut [u8; 65536],
-    known: &mut [usize; KNOWN_CELLS],
+    known: &mut [Known; LEARNT_MAX],
     counters: &mut Counters,
 ) -> Result<(), Refusal>
-    requires { TurnHeld text.now turn × Inputs text.now segs.now on × TurnReady text.now segs.now on (buffers named.old cells.old store.old report.old bytes.old known.old) counters.old }
-    ensures { TurnTaken (λ ks. pass_of on.key on.separators text.now ks turn) on segs.now text.now (buffers named.old cells.old store.old report.old bytes.old known.old) counters.old (buffers named.new cells.new store.new report.new bytes.new known.new) (after_step counters.new result) }
+    requires { TurnHeld text.now turn × Inputs text.now segments.now on × TurnReady text.now segments.now on (buffers named.old leaves.old store.old report.old bytes.old known.old) counters.old }
+    ensures { TurnTaken (λ ks. pass_of on.key on.separators text.now ks turn) on segments.now text.now (buffers named.old leaves.old store.old report.old bytes.old known.old) counters.old (buffers named.new leaves.new store.new report.new bytes.new known.new) (after_step counters.new result) }
 {
-    with_room(on.leaves, cells, store, bytes, counters);
+    with_room(on.leaves, leaves, store, bytes, counters);
     let aim = aim_of(turn, text);
     let job = Job { on, turn, aim };
     take_turn(
-        job, text, segs, named, cells, store, report, bytes, known, counters,
+        job, text, segments, named, leaves, store, report, bytes, known, counters,
     )
 }
 
 // All turns of a policy.
-pub fn run_turns(
+pub(crate) fn run_turns(
     on: Setting,
-    policy: Policy,
+    policy: &Policy,
     text: &[u8],
-    segs: &[usize; 2056],
+    segments: &[Segment; SEGMENT_ROWS],
     named: &mut [bool; LEAVES_MAX],
-    cells: &mut [usize],
+    leaves: &mut [Leaf],
     store: &mut [u8; 98304],
     report: &mut [u8],
     bytes: &mut [u8; 65536],
-    known: &mut [usize; KNOWN_CELLS],
+    known: &mut [Known; LEARNT_MAX],
     counters: &mut Counters,
 ) -> Result<(), Refusal>
-    requires { PolicyHeld text.now policy × (on.sweep ≡ policy.sweep) × Inputs text.now segs.now on × Begun text.now segs.now on (buffers named.old cells.old store.old report.old bytes.old known.old) counters.old }
-    ensures { (x : ℕ) (cr : Bool) (ss : List Segment) (b : Progress) → Stage x cr text.now segs.now on 0 ss b (buffers named.old cells.old store.old report.old bytes.old known.old) counters.old → Stands x cr text.now segs.now on 130 (after_tasks on.key on.separators (as_policy text.now policy) (tasks_of (as_policy text.now policy)) ss b) (progress_tasks on.key on.separators (as_policy text.now policy) (tasks_of (as_policy text.now policy)) ss b) (buffers named.new cells.new store.new report.new bytes.new known.new) (after_step counters.new result) }
+    requires { PolicyHeld text.now policy.now × (on.sweep ≡ policy.now.sweep) × Inputs text.now segments.now on × Begun text.now segments.now on (buffers named.old leaves.old store.old report.old bytes.old known.old) counters.old }
+    ensures { (x : ℕ) (cr : Bool) (ss : List Message.Segment) (b : Progress) → Stage x cr text.now segments.now on 0 ss b (buffers named.old leaves.old store.old report.old bytes.old known.old) counters.old → Stands x cr text.now segments.now on 130 (after_tasks on.key on.separators (as_policy text.now policy.now) (tasks_of (as_policy text.now policy.now)) ss b) (progress_tasks on.key on.separators (as_policy text.now policy.now) (tasks_of (as_policy text.now policy.now)) ss b) (buffers named.new leaves.new store.new report.new bytes.new known.new) (after_step counters.new result) }
 {
-    for rule in &policy.rules[..policy.count] {
+    let rules = policy.rules.as_slice();
+    for rule in rules {
         let turn = rule_turn(*rule);
         next_turn(
-            on, turn, text, segs, named, cells, store, report, bytes, known, counters,
+            on, turn, text, segments, named, leaves, store, report, bytes, known, counters,
         )?;
     }
     let judging = posture_turn(policy.posture);
     next_turn(
-        on, judging, text, segs, named, cells, store, report, bytes, known, counters,
+        on, judging, text, segments, named, leaves, store, report, bytes, known, counters,
     )?;
     let sweeping = sweep_turn(counters.known);
     next_turn(
-        on, sweeping, text, segs, named, cells, store, report, bytes, known, counters,
+        on, sweeping, text, segments, named, leaves, store, report, bytes, known, counters,
     )
 }

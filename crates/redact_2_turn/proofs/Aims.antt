@@ -1,20 +1,23 @@
 -- Laws of what a turn looks at. Assumes nothing.
-use Rattle.std.proofs.Common.{◌≡◌, refl, sym, ap, ◌∙◌, Bool, true, false, not, cond, ◌&&◌, ◌||◌, List, [], ◌∷◌, ℕ, ◌+◌, ◌≤◌, eqb, eqb-true, length, get_or, arith, Some, None}
+use Rattle.std.proofs.Common.{◌≡◌, refl, sym, ap, ◌∙◌, Bool, true, false, not, cond, ◌&&◌, ◌||◌, [], ◌∷◌, ℕ, ◌+◌, ◌≤◌, eqb, eqb-true, length, get_or, arith, Some, None}
 use Rattle.std.proofs.Common.{Option as Maybe}
 use Rattle.std.proofs.lemmas.Bool.{eqb-false}
+use borrow.Author.Tests.{not-true}
 use Rattle.text.specs.Text.{Text, same, part}
 use Rattle.text.proofs.Laws.{and_false, and_id, and_left, and_right}
 use Rattle.text.proofs.Words.{same_longer}
 use Rattle.text.proofs.Runs.{drop_step}
 use Rattle.text.proofs.Kept.{part_length}
 use Rattle.er7.specs.Path.{as_path, PathHeld}
+use Rattle.er7.specs.declared.message.Label.{Label as HeldLabel}
 use Rattle.er7.specs.declared.message.Place.{Place}
 use Rattle.er7.specs.declared.path.Path.{Path as HeldPath}
 use Rattle.er7_redact.specs.Policy.{as_rule}
 use Rattle.er7_redact.specs.declared.policy.Rule.{Rule as HeldRule}
 use Rattle.message_model.specs.Message.{Label, touchable}
 use Rattle.run_model.specs.Redact.{fits, covers}
-use Rattle.er7_table.specs.Table.{cell, place_at, name_at, label_at}
+use Rattle.er7_table.specs.declared.table.Leaf.{Leaf as HeldLeaf}
+use Rattle.er7_table.specs.Table.{as_label}
 use Rattle.redact_6_row.specs.Reach.{reaches_place}
 use Rattle.redact_6_row.proofs.Reaches.{covers_steps}
 use Rattle.redact_2_turn.specs.Turn.{name_of, aim_at, enters, is_touched, looks_at, works}
@@ -42,13 +45,13 @@ module _ (t : Text) (w : HeldPath) (h : PathHeld t w) (g : Label) {x y z : ℕ} 
 
 -- ---- the leaves of such a segment
 
-pub works_rule : (t : Text) (w : HeldPath) (g : Label) (named : Bool) (cells : List ℕ) (i : ℕ) → works (aim_at t w) g named cells i ≡ is_touched g cells i && reaches_place (as_path [] w) (place_at cells i)
+pub works_rule : (t : Text) (w : HeldPath) (g : Label) (named : Bool) (x : HeldLeaf) → works (aim_at t w) g named x ≡ is_touched g x && reaches_place (as_path [] w) x.place
 unfolding works aim_at looks_at
-works_rule t w g named cells i = refl
+works_rule t w g named x = refl
 
-pub works_unnamed : (empty : Bool) (g : Label) (named : Bool) (cells : List ℕ) (i : ℕ) → works (Unnamed empty) g named cells i ≡ is_touched g cells i && not named && (empty || not (eqb (cell cells i 2) 0))
+pub works_unnamed : (empty : Bool) (g : Label) (named : Bool) (x : HeldLeaf) → works (Unnamed empty) g named x ≡ is_touched g x && not named && (empty || not (eqb x.len 0))
 unfolding works looks_at
-works_unnamed empty g named cells i = go (is_touched g cells i) (not named) (empty || not (eqb (cell cells i 2) 0))
+works_unnamed empty g named x = go (is_touched g x) (not named) (empty || not (eqb x.len 0))
   where
     go : (a b c : Bool) → a && (b && c) ≡ a && b && c
     go true b c = refl
@@ -80,20 +83,20 @@ module _ (t : Text) (r : HeldRule) (g : Label) (p : Place) where
 
 -- ---- by the answers of the code
 
-module _ (g : Label) (cells : List ℕ) (i : ℕ) where
-  pub touched_live : is_touched g cells i ≡ true → cell cells i 3 ≡ 0
+module _ (g : Label) (x : HeldLeaf) where
+  pub touched_live : is_touched g x ≡ true → x.gone ≡ false
   unfolding is_touched
-  touched_live e = eqb-true (cell cells i 3) 0 (and_left (eqb (cell cells i 3) 0) (touchable g (place_at cells i)) e)
+  touched_live e = not-true x.gone (and_left (not x.gone) (touchable g x.place) e)
 
-  pub touched_place : is_touched g cells i ≡ true → touchable g (place_at cells i) ≡ true
+  pub touched_place : is_touched g x ≡ true → touchable g x.place ≡ true
   unfolding is_touched
-  touched_place e = and_right (eqb (cell cells i 3) 0) (touchable g (place_at cells i)) e
+  touched_place e = and_right (not x.gone) (touchable g x.place) e
 
 -- a segment of the table
-pub enters_is : (n : ℕ × ℕ × ℕ) (w : HeldPath) (segs : List ℕ) (k : ℕ) {f : Bool} → f ≡ fits w.segment_occurrence (cell segs k 5)
-    → eqb n.0 (cell segs k 2) && eqb n.1 (cell segs k 3) && eqb n.2 (cell segs k 4) && f ≡ enters (Reached (Some n) w) (label_at segs k)
-unfolding enters label_at name_at same
-enters_is n w segs k {f} e = rw e (ap (λ b. b && fits w.segment_occurrence (cell segs k 5)) (go (eqb n.0 (cell segs k 2)) (eqb n.1 (cell segs k 3)) (eqb n.2 (cell segs k 4))))
+pub enters_is : (n : ℕ × ℕ × ℕ) (w : HeldPath) (g : HeldLabel) {f : Bool} → f ≡ fits w.segment_occurrence g.occurrence
+    → eqb n.0 g.a && eqb n.1 g.b && eqb n.2 g.c && f ≡ enters (Reached (Some n) w) (as_label g)
+unfolding enters as_label same
+enters_is n w g {f} e = rw e (ap (λ b. b && fits w.segment_occurrence g.occurrence) (go (eqb n.0 g.a) (eqb n.1 g.b) (eqb n.2 g.c)))
   where
     go : (a b c : Bool) → a && b && c ≡ a && (b && (c && true))
     go true true c = sym (and_id c)
@@ -101,6 +104,6 @@ enters_is n w segs k {f} e = rw e (ap (λ b. b && fits w.segment_occurrence (cel
     go false b c = refl
 
 -- a leaf of another field is not worked on
-pub works_elsewhere : (name : Maybe (ℕ × ℕ × ℕ)) (w : HeldPath) (g : Label) (named : Bool) (cells : List ℕ) (i : ℕ) → fits w.field (cell cells i 4) ≡ false → works (Reached name w) g named cells i ≡ false
-unfolding works looks_at reaches_place place_at as_path
-works_elsewhere name w g named cells i e = rw (e, and_false (is_touched g cells i))
+pub works_elsewhere : (name : Maybe (ℕ × ℕ × ℕ)) (w : HeldPath) (g : Label) (named : Bool) (x : HeldLeaf) → fits w.field x.place.field ≡ false → works (Reached name w) g named x ≡ false
+unfolding works looks_at reaches_place as_path
+works_elsewhere name w g named x e = rw (e, and_false (is_touched g x))

@@ -17,7 +17,8 @@ use Rattle.er7_redact.specs.declared.policy.Rule.{Rule as HeldRule}
 use Rattle.message_model.specs.Message.{Leaf, leaf, Label, touchable}
 use Rattle.message_model.specs.Value.{is_empty_or_null}
 use Rattle.run_model.specs.Redact.{covers, after, effect, stays, act, act_or, changing, changing_or, is_unnamed, rule_leaf, rule_events, unnamed_leaf, unnamed_events, Known, for_posture, for_sweep}
-use Rattle.er7_table.specs.Table.{cell, place_at, stored_text, leaf_at}
+use Rattle.er7_table.specs.declared.table.Leaf.{Leaf as HeldLeaf}
+use Rattle.er7_table.specs.Table.{leaf_row, place_at, stored_text, leaf_at}
 use Rattle.redact_6_row.specs.Reach.{reaches_place}
 use Rattle.redact_4_leaf.specs.Walk.{Pass}
 use Rattle.redact_4_leaf.specs.State.{text_in}
@@ -86,9 +87,9 @@ sweep_empty : (s : Separators) (ks : List Known) → for_sweep s ks [] ≡ none
 unfolding for_sweep is_empty_or_null is_empty
 sweep_empty s ks = refl
 
-empty_text : (cells : List ℕ) (store : Text) (i : ℕ) → eqb (cell cells i 2) 0 ≡ true → text_in cells store i ≡ []
+empty_text : (held : List HeldLeaf) (store : Text) (i : ℕ) → eqb (leaf_row held i).len 0 ≡ true → text_in held store i ≡ []
 unfolding text_in part
-empty_text cells store i e = rw (eqb-true (cell cells i 2) 0 e)
+empty_text held store i e = rw (eqb-true (leaf_row held i).len 0 e)
 
 neither : (a b : Bool) → a || not b ≡ false → (a ≡ false) × (b ≡ true)
 neither true b e = clash e
@@ -97,39 +98,39 @@ neither false false e = clash e
 
 -- ---- the leaves of the tables
 
-module _ (key : ℕ) (s : Separators) (text : Text) (ks : List Known) (g : Label) (m : ℕ → Bool) (cells : List ℕ) (store : Text) (i : ℕ) (xs : List Leaf) where
-  still_rule : (r : HeldRule) → works (aim_at text r.path) g (m i) cells i ≡ false → Still (rule_pass key s (as_rule text r)) g (leaf_at m cells store i) xs
-  unfolding leaf_at stored_text is_touched
-  still_rule r e = go (eqb (cell cells i 3) 0) (sym (works_rule text r.path g (m i) cells i) ∙ e)
+module _ (key : ℕ) (s : Separators) (text : Text) (ks : List Known) (g : Label) (m : ℕ → Bool) (held : List HeldLeaf) (store : Text) (i : ℕ) (xs : List Leaf) where
+  still_rule : (r : HeldRule) → works (aim_at text r.path) g (m i) (leaf_row held i) ≡ false → Still (rule_pass key s (as_rule text r)) g (leaf_at m held store i) xs
+  unfolding leaf_at place_at stored_text is_touched
+  still_rule r e = go (leaf_row held i).gone (sym (works_rule text r.path g (m i) (leaf_row held i)) ∙ e)
     where
-      go : (b : Bool) → b && touchable g (place_at cells i) && reaches_place (as_path [] r.path) (place_at cells i) ≡ false → Still (rule_pass key s (as_rule text r)) g (leaf (place_at cells i) (m i) (cond b (some (part store (cell cells i 1) (cell cells i 2))) none)) xs
-      go false q = gone_rule key s (as_rule text r) g (place_at cells i) (m i) xs
-      go true q = uncovered key s (as_rule text r) g (place_at cells i) (m i) _ xs (covers_not text r g (place_at cells i) q)
+      go : (b : Bool) → not b && touchable g (place_at held i) && reaches_place (as_path [] r.path) (place_at held i) ≡ false → Still (rule_pass key s (as_rule text r)) g (leaf (place_at held i) (m i) (cond b none (some (part store (leaf_row held i).start (leaf_row held i).len)))) xs
+      go true q = gone_rule key s (as_rule text r) g (place_at held i) (m i) xs
+      go false q = uncovered key s (as_rule text r) g (place_at held i) (m i) _ xs (covers_not text r g (place_at held i) q)
 
   -- x says whether its text matters
-  still_unnamed : (pick : Text → Option Action) (x : Bool) → is_touched g cells i && not (m i) && x ≡ false
-      → (x ≡ false → Still (unnamed_pass key s pick) g (leaf (place_at cells i) (m i) (some (text_in cells store i))) xs) → Still (unnamed_pass key s pick) g (leaf_at m cells store i) xs
-  unfolding leaf_at stored_text text_in is_touched
-  still_unnamed pick x e k = go (eqb (cell cells i 3) 0) (touchable g (place_at cells i) && not (m i)) refl e
+  still_unnamed : (pick : Text → Option Action) (x : Bool) → is_touched g (leaf_row held i) && not (m i) && x ≡ false
+      → (x ≡ false → Still (unnamed_pass key s pick) g (leaf (place_at held i) (m i) (some (text_in held store i))) xs) → Still (unnamed_pass key s pick) g (leaf_at m held store i) xs
+  unfolding leaf_at place_at stored_text text_in is_touched
+  still_unnamed pick x e k = go (leaf_row held i).gone (touchable g (place_at held i) && not (m i)) refl e
     where
-      go : (b u : Bool) → touchable g (place_at cells i) && not (m i) ≡ u → b && touchable g (place_at cells i) && not (m i) && x ≡ false
-          → Still (unnamed_pass key s pick) g (leaf (place_at cells i) (m i) (cond b (some (part store (cell cells i 1) (cell cells i 2))) none)) xs
-      go false u q v = gone_unnamed key s pick g (place_at cells i) (m i) xs
-      go true false q v = kept_named key s pick g (place_at cells i) (m i) _ xs (unfold is_unnamed in q)
-      go true true q v = k (rw q at v)
+      go : (b u : Bool) → touchable g (place_at held i) && not (m i) ≡ u → not b && touchable g (place_at held i) && not (m i) && x ≡ false
+          → Still (unnamed_pass key s pick) g (leaf (place_at held i) (m i) (cond b none (some (part store (leaf_row held i).start (leaf_row held i).len)))) xs
+      go true u q v = gone_unnamed key s pick g (place_at held i) (m i) xs
+      go false false q v = kept_named key s pick g (place_at held i) (m i) _ xs (unfold is_unnamed in q)
+      go false true q v = k (rw q at v)
 
-  pub still_leaf : (turn : Turn) → works (aim_of text turn) g (m i) cells i ≡ false → Still (pass_of key s text ks turn) g (leaf_at m cells store i) xs
+  pub still_leaf : (turn : Turn) → works (aim_of text turn) g (m i) (leaf_row held i) ≡ false → Still (pass_of key s text ks turn) g (leaf_at m held store i) xs
   unfolding pass_of aim_of
   still_leaf (Apply r) e = still_rule r e
   still_leaf (Collapse r) e = still_rule r e
-  still_leaf (Reject a) e = still_unnamed (for_posture (reject (as_action text a))) (is_null_action (as_action text a) || not (eqb (cell cells i 2) 0)) (sym (works_unnamed (is_null_action (as_action text a)) g (m i) cells i) ∙ e) (λ q.
-      let w = neither (is_null_action (as_action text a)) (eqb (cell cells i 2) 0) q in
-      left key s (for_posture (reject (as_action text a))) g (place_at cells i) (m i) (text_in cells store i) (as_action text a) xs (unfold for_posture in refl)
-      (rw (empty_text cells store i w.1) (act_empty key s (as_action text a) w.0)))
-  still_leaf Sweep e = still_unnamed (for_sweep s ks) (not (eqb (cell cells i 2) 0)) (sym (works_unnamed false g (m i) cells i) ∙ e) (λ q.
-      unpicked key s (for_sweep s ks) g (place_at cells i) (m i) (some (text_in cells store i)) xs (λ t f.
-      let z : text_in cells store i ≡ t = cc in rw (← z, empty_text cells store i (not-false (eqb (cell cells i 2) 0) q)) (sweep_empty s ks)))
-  still_leaf Idle e = unfold leaf_at in unpicked key s (λ t. none) g (place_at cells i) (m i) (stored_text cells store i) xs (λ t f. refl)
+  still_leaf (Reject a) e = still_unnamed (for_posture (reject (as_action text a))) (is_null_action (as_action text a) || not (eqb (leaf_row held i).len 0)) (sym (works_unnamed (is_null_action (as_action text a)) g (m i) (leaf_row held i)) ∙ e) (λ q.
+      let w = neither (is_null_action (as_action text a)) (eqb (leaf_row held i).len 0) q in
+      left key s (for_posture (reject (as_action text a))) g (place_at held i) (m i) (text_in held store i) (as_action text a) xs (unfold for_posture in refl)
+      (rw (empty_text held store i w.1) (act_empty key s (as_action text a) w.0)))
+  still_leaf Sweep e = still_unnamed (for_sweep s ks) (not (eqb (leaf_row held i).len 0)) (sym (works_unnamed false g (m i) (leaf_row held i)) ∙ e) (λ q.
+      unpicked key s (for_sweep s ks) g (place_at held i) (m i) (some (text_in held store i)) xs (λ t f.
+      let z : text_in held store i ≡ t = cc in rw (← z, empty_text held store i (not-false (eqb (leaf_row held i).len 0) q)) (sweep_empty s ks)))
+  still_leaf Idle e = unfold leaf_at in unpicked key s (λ t. none) g (place_at held i) (m i) (stored_text held store i) xs (λ t f. refl)
 
 -- ---- the segments that a turn does not enter
 

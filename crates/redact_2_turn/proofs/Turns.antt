@@ -13,6 +13,7 @@ use Rattle.refusal.specs.Limits.{TEXT_MAX}
 use Rattle.er7.specs.declared.message.Label.{Label as HeldLabel}
 use Rattle.message_model.specs.Message.{Leaf, Label}
 use Rattle.run_model.specs.Redact.{Known, Progress, stopped, after_events, over_leaves, leaves_events, segments_events}
+use Rattle.er7_table.specs.declared.table.Segment.{Segment as HeldSegment}
 use Rattle.er7_table.specs.Table.{list_of, first_leaf, label_at, as_label, Segmented}
 use Rattle.er7_table.proofs.Laws.{list_ext}
 use Rattle.redact_5_act.specs.declared.state.Setting.{Setting}
@@ -28,12 +29,12 @@ use Rattle.redact_2_turn.proofs.Funds.{room_left_more, room_left_skip}
 use Rattle.redact_2_turn.proofs.Still.{Still}
 
 kept_none : (β : Buffers) → Kept β β
-kept_none β = record { place = λ j. refl; cells = refl; report = refl }
+kept_none β = record { place = λ j. refl; rows = refl; report = refl }
 
 kept_then : {β₀ β β' : Buffers} → Kept β₀ β → Kept β β' → Kept β₀ β'
 kept_then k l = record {
   place = λ j. l.place j ∙ k.place j;
-  cells = l.cells ∙ k.cells;
+  rows = l.rows ∙ k.rows;
   report = l.report ∙ k.report;
 }
 
@@ -63,7 +64,7 @@ visited_still P node on at text β c h z s = record {
 }
 
 module _ (P : List Known → Pass) (node : Bool) (on : Setting) (label : HeldLabel) (first end : ℕ) (text : Text) (β₀ : Buffers) (c₀ : Counters) where
-  pub passing_start : first ≤ end → Held text on.leaves β₀ c₀ → RoomLeft node β₀.cells first on.leaves c₀ → Passing P node on (as_label label) first end first text β₀ c₀ β₀ c₀
+  pub passing_start : first ≤ end → Held text on.leaves β₀ c₀ → RoomLeft node β₀.held first on.leaves c₀ → Passing P node on (as_label label) first end first text β₀ c₀ β₀ c₀
   passing_start h d f = record {
     low = omega arith;
     high = h;
@@ -170,7 +171,7 @@ module _ (P : Pass) (g : Label) (still : (x : Leaf) (xs : List Leaf) → Still P
       }
 
 segment_still : (P : List Known → Pass) (node : Bool) (on : Setting) (g : Label) (first end : ℕ) (text : Text) (β : Buffers) (c : Counters) → ((x : Leaf) (xs : List Leaf) → Still (P (knowing text β c)) g x xs)
-    → first ≤ end → end ≤ on.leaves → Held text on.leaves β c → RoomLeft node β.cells first on.leaves c → Passing P node on g first end end text β c β c
+    → first ≤ end → end ≤ on.leaves → Held text on.leaves β c → RoomLeft node β.held first on.leaves c → Passing P node on g first end end text β c β c
 segment_still P node on g first end text β c s h l d f = record {
   low = h;
   high = omega arith;
@@ -183,8 +184,8 @@ segment_still P node on g first end text β c s h l d f = record {
   pass = refl;
 }
 
-module _ (P : List Known → Pass) (node : Bool) (on : Setting) (segs : List ℕ) (text : Text) (z : Segmented segs on.segments on.leaves) (β₀ : Buffers) (c₀ : Counters) where
-  pub turning_start : Held text on.leaves β₀ c₀ → RoomLeft node β₀.cells 0 on.leaves c₀ → Turning P node on segs 0 text β₀ c₀ β₀ c₀
+module _ (P : List Known → Pass) (node : Bool) (on : Setting) (segs : List HeldSegment) (text : Text) (z : Segmented segs on.segments on.leaves) (β₀ : Buffers) (c₀ : Counters) where
+  pub turning_start : Held text on.leaves β₀ c₀ → RoomLeft node β₀.held 0 on.leaves c₀ → Turning P node on segs 0 text β₀ c₀ β₀ c₀
   turning_start d f = record {
     high = omega arith;
     walked = λ b k. record { progress = b; stands = k; to = segments_start (P (knowing text β₀ c₀)) on.sweep (label_at segs) (first_leaf segs) on.leaves on.segments (leaves β₀) b };

@@ -3,7 +3,7 @@ use Rattle.std.proofs.Common.{Result, Ok, Err}
 use mathlib.Core.Path.{◌≡◌, refl, sym, ap, subst, ◌∙◌}
 use mathlib.Core.Bool.{Bool, true, false, not, ◌&&◌, ◌||◌}
 use mathlib.Core.List.{List, []}
-use Prim.Native.Nat.{ℕ, ◌+◌, ◌*◌, ◌≤◌, ◌<◌}
+use Prim.Native.Nat.{ℕ, ◌+◌, ◌≤◌, ◌<◌}
 use native.Mathlib.Omega.{arith}
 use lib.Dec.{eqb}
 use lib.ListN.{length}
@@ -19,7 +19,9 @@ use Rattle.er7_redact.specs.declared.action.Action.{Action as HeldAction}
 use Rattle.er7_redact.specs.declared.policy.Rule.{Rule as HeldRule}
 use Rattle.message_model.specs.Message.{Leaf, Label}
 use Rattle.run_model.specs.Redact.{act, row, covers, reach, each_leaf, is_node, is_unnamed, for_posture, for_sweep}
-use Rattle.er7_table.specs.Table.{cell, place_at, name_at, label_at, as_label, Segmented}
+use Rattle.er7_table.specs.declared.table.Leaf.{Leaf as HeldLeaf}
+use Rattle.er7_table.specs.declared.table.Segment.{Segment as HeldSegment}
+use Rattle.er7_table.specs.Table.{leaf_row, place_at, name_at, label_at, as_label, Segmented}
 use Rattle.redact_6_row.specs.Reach.{reaches_place}
 use Rattle.redact_5_act.specs.declared.state.Counters.{Counters}
 use Rattle.refusal.specs.declared.Refusal.{Refusal}
@@ -43,20 +45,20 @@ use Rattle.redact_2_turn.proofs.Idle.{idle_before, idle_behind, ahead_rising, or
 
 -- ---- a leaf with which an aim has to do
 
-pub works_touched : (aim : Aim) (g : Label) (named : Bool) (cells : List ℕ) (i : ℕ) → works aim g named cells i ≡ true → is_touched g cells i ≡ true
+pub works_touched : (aim : Aim) (g : Label) (named : Bool) (x : HeldLeaf) → works aim g named x ≡ true → is_touched g x ≡ true
 unfolding works
-works_touched aim g named cells i e = and_left (is_touched g cells i) (looks_at aim named cells i) e
+works_touched aim g named x e = and_left (is_touched g x) (looks_at aim named x) e
 
-works_unnamed_leaf : (empty : Bool) (g : Label) (named : Bool) (cells : List ℕ) (i : ℕ) → works (Unnamed empty) g named cells i ≡ true → is_unnamed g (place_at cells i) named ≡ true
+works_unnamed_leaf : (empty : Bool) (g : Label) (named : Bool) (x : HeldLeaf) → works (Unnamed empty) g named x ≡ true → is_unnamed g x.place named ≡ true
 unfolding is_unnamed
-works_unnamed_leaf empty g named cells i e =
-    let a = sym (works_unnamed empty g named cells i) ∙ e in
-    let b = and_left (is_touched g cells i && not named) (empty || not (eqb (cell cells i 2) 0)) a in
-    rw (touched_place g cells i (and_left (is_touched g cells i) (not named) b), and_right (is_touched g cells i) (not named) b)
+works_unnamed_leaf empty g named x e =
+    let a = sym (works_unnamed empty g named x) ∙ e in
+    let b = and_left (is_touched g x && not named) (empty || not (eqb x.len 0)) a in
+    rw (touched_place g x (and_left (is_touched g x) (not named) b), and_right (is_touched g x) (not named) b)
 
 module _ {text : Text} {job : Job} (h : JobHeld text job) {at : Spot} {β : Buffers} {c : Counters} (v : Visitable text job at β c) where
-  leaf_live : cell β.cells at.index 3 ≡ 0
-  leaf_live = touched_live (as_label at.label) β.cells at.index (works_touched job.aim (as_label at.label) (marked β.named at.index) β.cells at.index v.works)
+  leaf_live : (leaf_row β.held at.index).gone ≡ false
+  leaf_live = touched_live (as_label at.label) (leaf_row β.held at.index) (works_touched job.aim (as_label at.label) (marked β.named at.index) (leaf_row β.held at.index) v.works)
 
   inside : at.index < job.on.leaves
   inside = omega (arith, v.inside, v.ends)
@@ -72,61 +74,61 @@ module _ {text : Text} {job : Job} (h : JobHeld text job) {at : Spot} {β : Buff
     entered : enters (aim_of text turn) (as_label at.label) ≡ true
     entered = rw aim_is at v.enters
 
-    worked : works (aim_of text turn) (as_label at.label) (marked β.named at.index) β.cells at.index ≡ true
+    worked : works (aim_of text turn) (as_label at.label) (marked β.named at.index) (leaf_row β.held at.index) ≡ true
     worked = rw aim_is at v.works
 
-  ready : {turn : Turn} → job.turn ≡ turn → by_node turn ≡ false → Ready β.cells β.store job.on.leaves at.index c
+  ready : {turn : Turn} → job.turn ≡ turn → by_node turn ≡ false → Ready β.held β.store job.on.leaves at.index c
   ready e q = room_left_ready v.ahead.held v.ahead.room_left (ap by_node e ∙ q) inside leaf_live
 
-  rule_covers : (r : HeldRule) → PathHeld text r.path → enters (aim_at text r.path) (as_label at.label) ≡ true → works (aim_at text r.path) (as_label at.label) (marked β.named at.index) β.cells at.index ≡ true
-      → covers (as_rule text r) (as_label at.label) (place_at β.cells at.index) ≡ true
-  unfolding as_label
+  rule_covers : (r : HeldRule) → PathHeld text r.path → enters (aim_at text r.path) (as_label at.label) ≡ true → works (aim_at text r.path) (as_label at.label) (marked β.named at.index) (leaf_row β.held at.index) ≡ true
+      → covers (as_rule text r) (as_label at.label) (place_at β.held at.index) ≡ true
+  unfolding as_label place_at
   rule_covers r t a w =
       let g = as_label at.label in
-      let q = sym (works_rule text r.path g (marked β.named at.index) β.cells at.index) ∙ w in
-      covers_here text r g (place_at β.cells at.index) t refl a
-      (rw (touched_place g β.cells at.index (and_left (is_touched g β.cells at.index) (reaches_place (as_path [] r.path) (place_at β.cells at.index)) q))
-      (and_right (is_touched g β.cells at.index) (reaches_place (as_path [] r.path) (place_at β.cells at.index)) q))
+      let q = sym (works_rule text r.path g (marked β.named at.index) (leaf_row β.held at.index)) ∙ w in
+      covers_here text r g (place_at β.held at.index) t refl a
+      (rw (touched_place g (leaf_row β.held at.index) (and_left (is_touched g (leaf_row β.held at.index)) (reaches_place (as_path [] r.path) (place_at β.held at.index)) q))
+      (and_right (is_touched g (leaf_row β.held at.index)) (reaches_place (as_path [] r.path) (place_at β.held at.index)) q))
 
   -- what each visit asks for
   pub apply_asks : {r : HeldRule} → job.turn ≡ Apply r
-      → ActionHeld text r.action × (reach (as_rule text r) ≡ each_leaf) × (covers (as_rule text r) (as_label at.label) (place_at β.cells at.index) ≡ true) × Ready β.cells β.store job.on.leaves at.index c × KnownHeld text β.bytes β.known c × (length text ≤ INPUT_MAX) × (job.on.leaves ≤ LEAVES_MAX)
+      → ActionHeld text r.action × (reach (as_rule text r) ≡ each_leaf) × (covers (as_rule text r) (as_label at.label) (place_at β.held at.index) ≡ true) × Ready β.held β.store job.on.leaves at.index c × KnownHeld text β.bytes β.known c × (length text ≤ INPUT_MAX) × (job.on.leaves ≤ LEAVES_MAX)
   unfolding aim_of by_node
   apply_asks {r} e =
       let t = turn_held e in
       (t.1, t.2, rule_covers r t.0 (entered e) (worked e), ready e refl, v.ahead.held.known, h.policy, v.ahead.held.marks)
 
   pub collapse_asks : {r : HeldRule} → job.turn ≡ Collapse r
-      → ActionHeld text r.action × (is_node (reach (as_rule text r)) ≡ true) × (covers (as_rule text r) (as_label at.label) (place_at β.cells at.index) ≡ true) × NodeReady β.cells β.store job.on.leaves at.index at.end c × KnownHeld text β.bytes β.known c × (length text ≤ INPUT_MAX) × (job.on.leaves ≤ LEAVES_MAX)
+      → ActionHeld text r.action × (is_node (reach (as_rule text r)) ≡ true) × (covers (as_rule text r) (as_label at.label) (place_at β.held at.index) ≡ true) × NodeReady β.held β.store job.on.leaves at.index at.end c × KnownHeld text β.bytes β.known c × (length text ≤ INPUT_MAX) × (job.on.leaves ≤ LEAVES_MAX)
   unfolding aim_of by_node
   collapse_asks {r} e =
       let t = turn_held e in
       (t.1, t.2, rule_covers r t.0 (entered e) (worked e), room_left_node v.ahead.held v.ahead.room_left (ap by_node e) v.inside v.ends leaf_live, v.ahead.held.known, h.policy, v.ahead.held.marks)
 
-  pub reject_asks : {a : HeldAction} → job.turn ≡ Reject a → ActionHeld text a × Ready β.cells β.store job.on.leaves at.index c × (length text ≤ INPUT_MAX)
+  pub reject_asks : {a : HeldAction} → job.turn ≡ Reject a → ActionHeld text a × Ready β.held β.store job.on.leaves at.index c × (length text ≤ INPUT_MAX)
   unfolding by_node
   reject_asks e = (turn_held e, ready e refl, h.policy)
 
-  pub sweep_asks : job.turn ≡ Sweep → KnownHeld text β.bytes β.known c × Ready β.cells β.store job.on.leaves at.index c × (length text ≤ INPUT_MAX) × (job.on.leaves ≤ LEAVES_MAX)
+  pub sweep_asks : job.turn ≡ Sweep → KnownHeld text β.bytes β.known c × Ready β.held β.store job.on.leaves at.index c × (length text ≤ INPUT_MAX) × (job.on.leaves ≤ LEAVES_MAX)
   unfolding by_node
   sweep_asks e = (v.ahead.held.known, ready e refl, h.policy, v.ahead.held.marks)
 
   -- a leaf that no rule named
-  pub reject_unnamed : {a : HeldAction} → job.turn ≡ Reject a → is_unnamed (as_label at.label) (place_at β.cells at.index) (marked β.named at.index) ≡ true
-  unfolding aim_of
-  reject_unnamed {a} e = works_unnamed_leaf (is_null_action (as_action text a)) (as_label at.label) (marked β.named at.index) β.cells at.index (worked e)
+  pub reject_unnamed : {a : HeldAction} → job.turn ≡ Reject a → is_unnamed (as_label at.label) (place_at β.held at.index) (marked β.named at.index) ≡ true
+  unfolding aim_of place_at
+  reject_unnamed {a} e = works_unnamed_leaf (is_null_action (as_action text a)) (as_label at.label) (marked β.named at.index) (leaf_row β.held at.index) (worked e)
 
-  pub sweep_unnamed : job.turn ≡ Sweep → is_unnamed (as_label at.label) (place_at β.cells at.index) (marked β.named at.index) ≡ true
-  unfolding aim_of
-  sweep_unnamed e = works_unnamed_leaf false (as_label at.label) (marked β.named at.index) β.cells at.index (worked e)
+  pub sweep_unnamed : job.turn ≡ Sweep → is_unnamed (as_label at.label) (place_at β.held at.index) (marked β.named at.index) ≡ true
+  unfolding aim_of place_at
+  sweep_unnamed e = works_unnamed_leaf false (as_label at.label) (marked β.named at.index) (leaf_row β.held at.index) (worked e)
 
   -- what each visit answers, of the turn's pass
-  pub rejected : {a : HeldAction} → job.turn ≡ Reject a → {cells' : List ℕ} {store' report' bytes' : Text} (r : Result Counters Refusal)
-      → ActedOn (act job.on.key job.on.separators (as_action text a) (text_in β.cells β.store at.index)) (row (as_label at.label) (place_at β.cells at.index) (as_action text a)) job.on.leaves at.index β.cells β.store β.report β.bytes c cells' store' report' bytes' r
-      → Visit (pass_by text job) (by_node job.turn) job.on at text β c (buffers β.named cells' store' report' bytes' β.known) r
+  pub rejected : {a : HeldAction} → job.turn ≡ Reject a → {held' : List HeldLeaf} {store' report' bytes' : Text} (r : Result Counters Refusal)
+      → ActedOn (act job.on.key job.on.separators (as_action text a) (text_in β.held β.store at.index)) (row (as_label at.label) (place_at β.held at.index) (as_action text a)) job.on.leaves at.index β.held β.store β.report β.bytes c held' store' report' bytes' r
+      → Visit (pass_by text job) (by_node job.turn) job.on at text β c (buffers β.named held' store' report' bytes' β.known) r
   unfolding pass_by pass_of by_node
   rejected {a} e r d =
-      rw e (unnamed_acted job.on at text β.named β.cells β.store β.report β.bytes β.known c (λ ks. for_posture (reject (as_action text a))) (ready e refl) v.ahead.held.marks v.ahead.held.known (as_action text a) (reject_unnamed e) (unfold for_posture in refl) same_all r d)
+      rw e (unnamed_acted job.on at text β.named β.held β.store β.report β.bytes β.known c (λ ks. for_posture (reject (as_action text a))) (ready e refl) v.ahead.held.marks v.ahead.held.known (as_action text a) (reject_unnamed e) (unfold for_posture in refl) same_all r d)
 
   pub never_idle : {X : Type 0} → job.turn ≡ Idle → X
   unfolding aim_of enters
@@ -147,35 +149,35 @@ module _ {text : Text} (job : Job) {at : Spot} {β : Buffers} {c : Counters} {β
 
 -- ---- the leaves of a segment
 
-module _ {text : Text} {job : Job} (h : JobHeld text job) (at : Spot) (β₀ : Buffers) (c₀ : Counters) (p : Passable job at β₀.cells) where
+module _ {text : Text} {job : Job} (h : JobHeld text job) (at : Spot) (β₀ : Buffers) (c₀ : Counters) (p : Passable job at β₀.held) where
   -- the leaves before index i are visited or passed by
   abbrev pub Before : ℕ → Buffers → Counters → Type 0
   Before i β c = Passing (pass_by text job) (by_node job.turn) job.on (as_label at.label) at.index at.end i text β₀ c₀ β c
 
-  still_here : (β : Buffers) (c : Counters) (j : ℕ) (xs : List Leaf) → works job.aim (as_label at.label) (marked β.named j) β.cells j ≡ false → Still (pass_by text job (knowing text β c)) (as_label at.label) (leaves β j) xs
+  still_here : (β : Buffers) (c : Counters) (j : ℕ) (xs : List Leaf) → works job.aim (as_label at.label) (marked β.named j) (leaf_row β.held j) ≡ false → Still (pass_by text job (knowing text β c)) (as_label at.label) (leaves β j) xs
   unfolding pass_by
-  still_here β c j xs e = still_leaf job.on.key job.on.separators text (knowing text β c) (as_label at.label) (marked β.named) β.cells β.store j xs job.turn (rw h.aim at e)
+  still_here β c j xs e = still_leaf job.on.key job.on.separators text (knowing text β c) (as_label at.label) (marked β.named) β.held β.store j xs job.turn (rw h.aim at e)
 
-  passed_by : {i r : ℕ} {β : Buffers} {c : Counters} → i ≤ r → r ≤ at.end → ((j : ℕ) → i ≤ j → j < r → works job.aim (as_label at.label) (marked β.named j) β.cells j ≡ false) → Before i β c → Before r β c
+  passed_by : {i r : ℕ} {β : Buffers} {c : Counters} → i ≤ r → r ≤ at.end → ((j : ℕ) → i ≤ j → j < r → works job.aim (as_label at.label) (marked β.named j) (leaf_row β.held j) ≡ false) → Before i β c → Before r β c
   passed_by {β = β} {c = c} l m f w = passing_still (pass_by text job) (by_node job.turn) job.on at.label at.index at.end text β₀ c₀ p.ends l m (λ j a b. still_here β c j _ (f j a b)) w
 
   pub before_first : Ahead text job at.index β₀ c₀ → {r : ℕ} → StartAt (field_of job.aim) at.index at.end r → Before r β₀ c₀
   before_first a t =
-      passed_by t.low t.high (idle_before job.aim (as_label at.label) β₀.named β₀.cells p.ordered t)
+      passed_by t.low t.high (idle_before job.aim (as_label at.label) β₀.named β₀.held p.ordered t)
       (passing_start (pass_by text job) (by_node job.turn) job.on at.label at.index at.end text β₀ c₀ p.order a.held a.room_left)
 
   module _ {i : ℕ} {β : Buffers} {c : Counters} (w : Before i β c) (l : i < at.end) where
     -- leaf i lies in the tables
-    pub before_inside : (i * 8 + 8 ≤ length β.cells) × (i < LEAVES_MAX)
+    pub before_inside : (i < length β.held) × (i < LEAVES_MAX)
     before_inside = (omega (arith, p.ends, w.held.good.rows), omega (arith, p.ends, w.held.marks))
 
-    pub before_visitable : works job.aim (as_label at.label) (marked β.named i) β.cells i ≡ true → Visitable text job (spot at.label at.end i) β c
+    pub before_visitable : works job.aim (as_label at.label) (marked β.named i) (leaf_row β.held i) ≡ true → Visitable text job (spot at.label at.end i) β c
     before_visitable e = record { enters = p.enters; works = e; inside = l; ends = p.ends; ahead = record { held = w.held; room_left = w.room_left } }
 
     pub before_visited : {β' : Buffers} {r : Result Counters Refusal} {c' : Counters} → Visit (pass_by text job) (by_node job.turn) job.on (spot at.label at.end i) text β c β' r → r ≡ Ok c' → Before (i + 1) β' c'
     before_visited v e = passing_more (pass_by text job) (by_node job.turn) job.on at.label at.index at.end text β₀ c₀ p.ends w l (visit_going v e)
 
-    pub before_passed : works job.aim (as_label at.label) (marked β.named i) β.cells i ≡ false → Before (i + 1) β c
+    pub before_passed : works job.aim (as_label at.label) (marked β.named i) (leaf_row β.held i) ≡ false → Before (i + 1) β c
     before_passed e = passed_by (omega arith) (omega arith) (λ j a b. let q : j ≡ i = omega arith in rw q e) w
 
     pub before_stop : {β' : Buffers} {r : Result Counters Refusal} {x : Refusal} → Visit (pass_by text job) (by_node job.turn) job.on (spot at.label at.end i) text β c β' r → r ≡ Err x
@@ -183,17 +185,17 @@ module _ {text : Text} {job : Job} (h : JobHeld text job) (at : Spot) (β₀ : B
     before_stop v e = record { out = passing_stop (pass_by text job) (by_node job.turn) job.on at.label at.index at.end text β₀ c₀ p.ends w l (visit_stopped v e) }
 
     -- leaf i is of a later field
-    pub before_behind : is_behind (field_of job.aim) β.cells i ≡ true → LeavesPassed (pass_by text job) (by_node job.turn) job.on at text β₀ c₀ β (Ok c)
+    pub before_behind : is_behind (field_of job.aim) (leaf_row β.held i) ≡ true → LeavesPassed (pass_by text job) (by_node job.turn) job.on at text β₀ c₀ β (Ok c)
     before_behind e =
         let u = ahead_rising β₀ β w.low (λ j a b. w.ahead j a (omega (arith, p.ends))) p.ordered in
-        record { out = passed_by (omega arith) (omega arith) (idle_behind job.aim (as_label at.label) β.named β.cells u l e) w }
+        record { out = passed_by (omega arith) (omega arith) (idle_behind job.aim (as_label at.label) β.named β.held u l e) w }
 
   pub before_end : {i : ℕ} {β : Buffers} {c : Counters} → Before i β c → at.end ≤ i → LeavesPassed (pass_by text job) (by_node job.turn) job.on at text β₀ c₀ β (Ok c)
   before_end w l = record { out = passing_done (pass_by text job) (by_node job.turn) job.on at.label at.index at.end text β₀ c₀ l w }
 
 -- ---- all segments
 
-module _ {text : Text} {job : Job} (h : JobHeld text job) (segs : List ℕ) (z : Segmented segs job.on.segments job.on.leaves) (β₀ : Buffers) (c₀ : Counters) where
+module _ {text : Text} {job : Job} (h : JobHeld text job) (segs : List HeldSegment) (z : Segmented segs job.on.segments job.on.leaves) (β₀ : Buffers) (c₀ : Counters) where
   -- those before segment k are passed
   abbrev pub Through : ℕ → Buffers → Counters → Type 0
   Through k β c = Turning (pass_by text job) (by_node job.turn) job.on segs k text β₀ c₀ β c
@@ -209,7 +211,7 @@ module _ {text : Text} {job : Job} (h : JobHeld text job) (segs : List ℕ) (z :
         (λ j a b x xs. let q : j ≡ k = omega arith in rw q (still_segment job.on.key job.on.separators text (knowing text β c) (label_at segs k) refl job.turn h.held (rw h.aim at e) x xs)) w
 
     module _ {at : Spot} (q : SpotIs segs k at) where
-      pub through_passable : enters job.aim (label_at segs k) ≡ true → AllOrdered segs β₀.cells job.on.segments → Passable job at β.cells
+      pub through_passable : enters job.aim (label_at segs k) ≡ true → AllOrdered segs β₀.held job.on.segments → Passable job at β.held
       through_passable e o =
           let low = segment_low (pass_by text job) (by_node job.turn) job.on segs text z β₀ c₀ w l in
           let high = segment_high (pass_by text job) (by_node job.turn) job.on segs text z β₀ c₀ w l in

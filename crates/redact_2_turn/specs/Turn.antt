@@ -10,7 +10,7 @@ use Rattle.er7_redact.specs.Action.{as_action, is_null_action, ActionHeld}
 use Rattle.er7_redact.specs.Policy.{as_rule, reject}
 use Rattle.message_model.specs.Message.{Label, touchable}
 use Rattle.run_model.specs.Redact.{Known, fits, reach, each_leaf, is_node, for_posture, for_sweep}
-use Rattle.er7_table.specs.Table.{cell, place_at}
+use Rattle.er7_table.specs.declared.table.Leaf.{Leaf as HeldLeaf}
 use Rattle.redact_6_row.specs.Reach.{reaches_place}
 use Rattle.redact_4_leaf.specs.Walk.{Pass}
 use Rattle.redact_4_leaf.specs.Visit.{rule_pass, unnamed_pass}
@@ -71,18 +71,18 @@ enters (Reached (Some n) w) g = same (n.0 ∷ n.1 ∷ n.2 ∷ []) g.name && fits
 enters (Unnamed empty) g = true
 enters Nothing g = false
 
--- leaf i of the segment g has not vanished and may be touched
-unfoldable pub is_touched : Label → List ℕ → ℕ → Bool
-is_touched g cells i = eqb (cell cells i 3) 0 && touchable g (place_at cells i)
+-- a leaf of the segment g has not vanished and may be touched
+unfoldable pub is_touched : Label → HeldLeaf → Bool
+is_touched g x = not x.gone && touchable g x.place
 
 -- .. and an aim has to do with it
-unfoldable pub looks_at : Aim → Bool → List ℕ → ℕ → Bool
-looks_at (Reached name w) named cells i = reaches_place (as_path [] w) (place_at cells i)
-looks_at (Unnamed empty) named cells i = not named && (empty || not (eqb (cell cells i 2) 0))
-looks_at Nothing named cells i = false
+unfoldable pub looks_at : Aim → Bool → HeldLeaf → Bool
+looks_at (Reached name w) named x = reaches_place (as_path [] w) x.place
+looks_at (Unnamed empty) named x = not named && (empty || not (eqb x.len 0))
+looks_at Nothing named x = false
 
-unfoldable pub works : Aim → Label → Bool → List ℕ → ℕ → Bool
-works aim g named cells i = is_touched g cells i && looks_at aim named cells i
+unfoldable pub works : Aim → Label → Bool → HeldLeaf → Bool
+works aim g named x = is_touched g x && looks_at aim named x
 
 -- what a turn names lies in `text`
 abbrev pub TurnHeld : Text → Turn → Type 0

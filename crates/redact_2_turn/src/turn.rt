@@ -1,7 +1,7 @@
 // A turn of a run over all leaves of a message.
-ghost use Rattle.std.specs.Prelude.{◌≡◌, true, ◌+◌, ◌*◌, ◌≤◌, ◌<◌, length};
+ghost use Rattle.std.specs.Prelude.{◌≡◌, ◌+◌, ◌≤◌, ◌<◌};
 ghost use Rattle.er7.specs.Path.{PathHeld};
-ghost use Rattle.er7_table.specs.Table.{label_at, as_label, Segmented, BytesNamed, AllNamed};
+ghost use Rattle.er7_table.specs.Table.{as_label, Segmented};
 ghost use Rattle.redact_5_act.specs.State.{after_step};
 ghost use Rattle.redact_4_leaf.specs.State.{buffers};
 ghost use Rattle.redact_4_leaf.specs.Visit.{Visit};
@@ -15,15 +15,15 @@ use er7::message::Label;
 use er7::path::Path;
 use er7_redact::action::{Action, is_null_action};
 use er7_redact::policy::Rule;
-use er7_table::table::{label_at, place_at};
+use er7_table::table::{Leaf, SEGMENT_ROWS, Segment};
 use redact_3_node::node::collapse_leaf;
 use redact_4_leaf::leaf::{Spot, act_on, mark};
 use redact_4_leaf::visit::{apply_leaf, sweep_leaf};
-use redact_5_act::known::KNOWN_CELLS;
+use redact_5_act::known::Known;
 use redact_5_act::state::{Counters, Setting};
 use redact_6_row::reach::{index_fits, reaches_place, touchable};
 use refusal::Refusal;
-use refusal::limits::LEAVES_MAX;
+use refusal::limits::{LEARNT_MAX, LEAVES_MAX};
 
 // A rule on each leaf, a rule on nodes, a rejecting posture, the sweep, or nothing.
 #[derive(Clone, Copy)]
@@ -101,22 +101,17 @@ fn field_of(aim: Aim) -> u64
     }
 }
 
-// Whether an aim has to do with segment k.
+// Whether an aim has to do with a segment.
 #[tactic(auto, unfolding(crate::specs::Turn::enters))]
-fn enters(aim: Aim, segs: &[usize; 2056], k: usize) -> bool
-    requires { k * 8 + 8 ≤ 2056 }
-    ensures { result ≡ Turns.enters aim (label_at segs.now k) }
+fn enters(aim: Aim, g: Label) -> bool
+    ensures { result ≡ Turns.enters aim (as_label g) }
 {
     match aim {
         Aim::Reached { name, path } => {
             let Some((a, b, c)) = name else {
                 return false;
             };
-            let at = k * 8;
-            (usize::from(a) == segs[at + 2])
-                & (usize::from(b) == segs[at + 3])
-                & (usize::from(c) == segs[at + 4])
-                & index_fits(path.segment_occurrence, segs[at + 5])
+            (a == g.a) & (b == g.b) & (c == g.c) & index_fits(path.segment_occurrence, g.occurrence)
         }
         Aim::Unnamed { .. } => true,
         Aim::Nothing => false,
@@ -132,39 +127,32 @@ fn start_at(field: u64, first: usize, end: usize) -> usize
     first + before as usize
 }
 
-// Whether leaf i of the segment g has not vanished and may be touched.
-fn is_touched(g: Label, i: usize, cells: &[usize]) -> bool
-    requires { i * 8 + 8 ≤ length cells.now }
-    ensures { result ≡ Turns.is_touched (as_label g) cells.now i }
+// Whether a leaf of the segment g has not vanished and may be touched.
+fn is_touched(g: Label, leaf: Leaf) -> bool
+    ensures { result ≡ Turns.is_touched (as_label g) leaf }
 {
-    (cells[i * 8 + 3] == 0) & touchable(g, place_at(cells, i))
+    !leaf.gone & touchable(g, leaf.place)
 }
 
-// Whether an aim has to do with leaf i of a segment g with which it has to do. A leaf of another field is told at one look.
-fn works_on(aim: Aim, g: Label, named: bool, i: usize, cells: &[usize]) -> bool
-    requires { i * 8 + 8 ≤ length cells.now }
-    ensures { result ≡ works aim (as_label g) named cells.now i }
+// Whether an aim has to do with a leaf of a segment g with which it has to do. A leaf of another field is told at one look.
+fn works_on(aim: Aim, g: Label, named: bool, leaf: Leaf) -> bool
+    ensures { result ≡ works aim (as_label g) named leaf }
 {
-    let at = i * 8;
     match aim {
         Aim::Reached { path, .. } => {
-            index_fits(path.field, cells[at + 4])
-                && is_touched(g, i, cells) & reaches_place(path, place_at(cells, i))
+            index_fits(path.field, leaf.place.field)
+                && is_touched(g, leaf) & reaches_place(path, leaf.place)
         }
-        Aim::Unnamed { empty } => {
-            is_touched(g, i, cells) & !named & (empty | (cells[at + 2] != 0))
-        }
+        Aim::Unnamed { empty } => is_touched(g, leaf) & !named & (empty | (leaf.len != 0)),
         Aim::Nothing => false,
     }
 }
 
-// Whether leaf i has not vanished and stands behind the field, which is 0 for none.
-fn is_behind(field: u64, i: usize, cells: &[usize]) -> bool
-    requires { i * 8 + 8 ≤ length cells.now }
-    ensures { result ≡ is_behind field cells.now i }
+// Whether a leaf has not vanished and stands behind the field, which is 0 for none.
+fn is_behind(field: u64, leaf: Leaf) -> bool
+    ensures { result ≡ is_behind field leaf }
 {
-    let at = i * 8;
-    (field != 0) & (cells[at + 3] == 0) & (field < (cells[at + 4] as u64))
+    (field != 0) & !leaf.gone & (field < leaf.place.field as u64)
 }
 
 // A turn on a leaf with which it has to do.
@@ -173,15 +161,15 @@ fn visit(
     at: Spot,
     text: &[u8],
     named: &mut [bool; LEAVES_MAX],
-    cells: &mut [usize],
+    leaves: &mut [Leaf],
     store: &mut [u8; 98304],
     report: &mut [u8],
     bytes: &mut [u8; 65536],
-    known: &mut [usize; KNOWN_CELLS],
+    known: &mut [Known; LEARNT_MAX],
     counters: &mut Counters,
 ) -> Result<(), Refusal>
-    requires { JobHeld text.now job × Visitable text.now job at (buffers named.old cells.old store.old report.old bytes.old known.old) counters.old }
-    ensures { Visit (pass_by text.now job) (by_node job.turn) job.on at text.now (buffers named.old cells.old store.old report.old bytes.old known.old) counters.old (buffers named.new cells.new store.new report.new bytes.new known.new) (after_step counters.new result) }
+    requires { JobHeld text.now job × Visitable text.now job at (buffers named.old leaves.old store.old report.old bytes.old known.old) counters.old }
+    ensures { Visit (pass_by text.now job) (by_node job.turn) job.on at text.now (buffers named.old leaves.old store.old report.old bytes.old known.old) counters.old (buffers named.new leaves.new store.new report.new bytes.new known.new) (after_step counters.new result) }
 {
     let on = job.on;
     let turn = job.turn;
@@ -189,14 +177,14 @@ fn visit(
         Turn::Apply(rule) => {
             mark(named, at.index);
             apply_leaf(
-                on, at, rule, text, cells, store, report, bytes, known, counters,
+                on, at, rule, text, leaves, store, report, bytes, known, counters,
             )
         }
         Turn::Collapse(rule) => collapse_leaf(
-            on, at, rule, text, cells, store, report, bytes, known, counters,
+            on, at, rule, text, leaves, store, report, bytes, known, counters,
         ),
-        Turn::Reject(a) => act_on(on, at, a, text, cells, store, report, bytes, counters),
-        Turn::Sweep => sweep_leaf(on, at, text, cells, store, report, bytes, known, counters),
+        Turn::Reject(a) => act_on(on, at, a, text, leaves, store, report, bytes, counters),
+        Turn::Sweep => sweep_leaf(on, at, text, leaves, store, report, bytes, known, counters),
         Turn::Idle => Ok(()),
     }
 }
@@ -207,24 +195,25 @@ fn pass_leaves(
     at: Spot,
     text: &[u8],
     named: &mut [bool; LEAVES_MAX],
-    cells: &mut [usize],
+    leaves: &mut [Leaf],
     store: &mut [u8; 98304],
     report: &mut [u8],
     bytes: &mut [u8; 65536],
-    known: &mut [usize; KNOWN_CELLS],
+    known: &mut [Known; LEARNT_MAX],
     counters: &mut Counters,
 ) -> Result<(), Refusal>
-    requires { JobHeld text.now job × Passable job at cells.old × Ahead text.now job at.index (buffers named.old cells.old store.old report.old bytes.old known.old) counters.old }
-    ensures { LeavesPassed (pass_by text.now job) (by_node job.turn) job.on at text.now (buffers named.old cells.old store.old report.old bytes.old known.old) counters.old (buffers named.new cells.new store.new report.new bytes.new known.new) (after_step counters.new result) }
+    requires { JobHeld text.now job × Passable job at leaves.old × Ahead text.now job at.index (buffers named.old leaves.old store.old report.old bytes.old known.old) counters.old }
+    ensures { LeavesPassed (pass_by text.now job) (by_node job.turn) job.on at text.now (buffers named.old leaves.old store.old report.old bytes.old known.old) counters.old (buffers named.new leaves.new store.new report.new bytes.new known.new) (after_step counters.new result) }
 {
     let field = field_of(job.aim);
     for i in start_at(field, at.index, at.end)..at.end {
-        if works_on(job.aim, at.label, named[i], i, cells) {
+        let leaf = leaves[i];
+        if works_on(job.aim, at.label, named[i], leaf) {
             let spot = Spot { index: i, ..at };
             visit(
-                job, spot, text, named, cells, store, report, bytes, known, counters,
+                job, spot, text, named, leaves, store, report, bytes, known, counters,
             )?;
-        } else if is_behind(field, i, cells) {
+        } else if is_behind(field, leaf) {
             return Ok(());
         }
     }
@@ -232,15 +221,14 @@ fn pass_leaves(
 }
 
 // Where the first leaf of segment k stands.
-fn spot_of(segs: &[usize; 2056], k: usize) -> Spot
-    requires { BytesNamed segs.now k × (k * 8 + 16 ≤ 2056) }
-    ensures { SpotIs segs.now k result }
+fn spot_of(segments: &[Segment; SEGMENT_ROWS], k: usize) -> Spot
+    requires { k + 1 < SEGMENT_ROWS }
+    ensures { SpotIs segments.now k result }
 {
-    let at = k * 8;
     Spot {
-        label: label_at(segs, k),
-        end: segs[at + 9],
-        index: segs[at + 1],
+        label: segments[k].label,
+        end: segments[k + 1].first,
+        index: segments[k].first,
     }
 }
 
@@ -248,26 +236,26 @@ fn spot_of(segs: &[usize; 2056], k: usize) -> Spot
 pub fn take_turn(
     job: Job,
     text: &[u8],
-    segs: &[usize; 2056],
+    segments: &[Segment; SEGMENT_ROWS],
     named: &mut [bool; LEAVES_MAX],
-    cells: &mut [usize],
+    leaves: &mut [Leaf],
     store: &mut [u8; 98304],
     report: &mut [u8],
     bytes: &mut [u8; 65536],
-    known: &mut [usize; KNOWN_CELLS],
+    known: &mut [Known; LEARNT_MAX],
     counters: &mut Counters,
 ) -> Result<(), Refusal>
-    requires { JobHeld text.now job × AllNamed segs.now job.on.segments × Segmented segs.now job.on.segments job.on.leaves × AllOrdered segs.now cells.old job.on.segments × Ahead text.now job 0 (buffers named.old cells.old store.old report.old bytes.old known.old) counters.old }
-    ensures { TurnTaken (pass_by text.now job) job.on segs.now text.now (buffers named.old cells.old store.old report.old bytes.old known.old) counters.old (buffers named.new cells.new store.new report.new bytes.new known.new) (after_step counters.new result) }
+    requires { JobHeld text.now job × Segmented segments.now job.on.segments job.on.leaves × AllOrdered segments.now leaves.old job.on.segments × Ahead text.now job 0 (buffers named.old leaves.old store.old report.old bytes.old known.old) counters.old }
+    ensures { TurnTaken (pass_by text.now job) job.on segments.now text.now (buffers named.old leaves.old store.old report.old bytes.old known.old) counters.old (buffers named.new leaves.new store.new report.new bytes.new known.new) (after_step counters.new result) }
 {
     for k in 0..job.on.segments {
-        if enters(job.aim, segs, k) {
+        if enters(job.aim, segments[k].label) {
             pass_leaves(
                 job,
-                spot_of(segs, k),
+                spot_of(segments, k),
                 text,
                 named,
-                cells,
+                leaves,
                 store,
                 report,
                 bytes,

@@ -1,5 +1,5 @@
 // The collapse of a node: its leaves are learnt, its first leaf becomes the null, and each other vanishes when the pass comes to it.
-ghost use Rattle.std.specs.Prelude.{◌≡◌, Bool, true, List, suc, ◌+◌, ◌-◌, ◌*◌, ◌≤◌, ◌<◌, length};
+ghost use Rattle.std.specs.Prelude.{◌≡◌, Bool, true, List, suc, ◌+◌, ◌-◌, ◌≤◌, ◌<◌, length};
 ghost use Rattle.text.specs.Text.{Text};
 ghost use Rattle.er7_redact.specs.Action.{as_action, ActionHeld};
 ghost use Rattle.er7_redact.specs.Policy.{as_rule};
@@ -19,57 +19,54 @@ ghost use Rattle.refusal.specs.Limits.{INPUT_MAX, LEAVES_MAX, TEXT_MAX};
 use er7_redact::action::Action;
 use er7_redact::policy::Rule;
 use er7_render::store::set_gone;
-use er7_table::table::place_at;
+use er7_table::table::Leaf;
 use er7_value::escape::is_null;
 use redact_4_leaf::leaf::{Spot, put_change};
 use redact_4_leaf::learn::learn_at;
 use redact_5_act::act::put_null;
-use redact_5_act::known::KNOWN_CELLS;
+use redact_5_act::known::Known;
 use redact_5_act::state::{Counters, Setting};
 use redact_6_row::reach::{Reach, reach_of, starts};
 use refusal::Refusal;
+use refusal::limits::LEARNT_MAX;
 
 // Whether leaf i has not vanished and begins a node.
-fn opens(reach: Reach, i: usize, cells: &[usize]) -> bool
-    requires { i * 8 + 8 ≤ length cells.now }
-    ensures { result ≡ Node.opens (as_reach reach) cells.now i }
+#[tactic(auto, unfolding(crate::specs::Node::opens, er7_table::specs::Table::place_at))]
+fn opens(reach: Reach, i: usize, leaves: &[Leaf]) -> bool
+    requires { i < length leaves.now }
+    ensures { result ≡ Node.opens (as_reach reach) leaves.now i }
 {
-    let at = i * 8;
-    let gone = cells[at + 3];
-    let p = place_at(cells, i);
-    (gone == 0) & starts(reach, p)
+    !leaves[i].gone & starts(reach, leaves[i].place)
 }
 
 // The index behind the last leaf of the node whose first is leaf i: the next leaf that has not vanished and begins a node, or end.
-fn node_end(reach: Reach, i: usize, end: usize, cells: &[usize]) -> usize
-    requires { (i < end) × (end * 8 ≤ length cells.now) }
-    ensures { result ≡ node_end (as_reach reach) cells.now (suc i) (end - suc i) }
+fn node_end(reach: Reach, i: usize, end: usize, leaves: &[Leaf]) -> usize
+    requires { (i < end) × (end ≤ length leaves.now) }
+    ensures { result ≡ node_end (as_reach reach) leaves.now (suc i) (end - suc i) }
 {
     (i + 1..end)
-        .find(|&j| opens(reach, j, cells))
+        .find(|&j| opens(reach, j, leaves))
         .unwrap_or(end)
 }
 
 // The bytes of leaf i with its delimiter, 0 if it has vanished.
-fn leaf_size(i: usize, cells: &[usize]) -> usize
-    requires { (i * 8 + 8 ≤ length cells.now) × (live_len cells.now i ≤ TEXT_MAX) }
-    ensures { result ≡ leaf_size cells.now i }
+#[tactic(auto, unfolding(crate::specs::Node::leaf_size, er7_render::specs::Stored::live_len))]
+fn leaf_size(i: usize, leaves: &[Leaf]) -> usize
+    requires { (i < length leaves.now) × (live_len leaves.now i ≤ TEXT_MAX) }
+    ensures { result ≡ leaf_size leaves.now i }
 {
-    let at = i * 8;
-    if cells[at + 3] != 0 {
-        return 0;
-    }
-    cells[at + 2] + 1
+    let leaf = leaves[i];
+    if leaf.gone { 0 } else { leaf.len + 1 }
 }
 
 // The bytes of the leaves from leaf first to before leaf end that have not vanished, each with its delimiter.
-fn leaves_size(first: usize, end: usize, cells: &[usize]) -> usize
-    requires { (first ≤ end) × (end * 8 ≤ length cells.now) × (live_sum cells.now first (end - first) ≤ TEXT_MAX) }
-    ensures { result ≡ leaves_size cells.now first (end - first) }
+fn leaves_size(first: usize, end: usize, leaves: &[Leaf]) -> usize
+    requires { (first ≤ end) × (end ≤ length leaves.now) × (live_sum leaves.now first (end - first) ≤ TEXT_MAX) }
+    ensures { result ≡ leaves_size leaves.now first (end - first) }
 {
     let mut sum = 0;
     for i in first..end {
-        sum += leaf_size(i, cells);
+        sum += leaf_size(i, leaves);
     }
     sum
 }
@@ -79,20 +76,19 @@ fn learn_live(
     on: Setting,
     a: Action,
     i: usize,
-    cells: &[usize],
+    leaves: &[Leaf],
     store: &[u8; 98304],
     bytes: &mut [u8; 65536],
-    known: &mut [usize; KNOWN_CELLS],
+    known: &mut [Known; LEARNT_MAX],
     counters: &mut Counters,
 ) -> Result<(), Refusal>
-    requires { Learnable cells.now bytes.old known.old i counters.old }
-    ensures { (text : Text) → ActionHeld text a → KnownHeld text bytes.old known.old counters.old → Learning (learning on.separators (as_action text a) (live_texts cells.now store.now i 1)) on.sweep text bytes.old known.old counters.old bytes.new known.new (after_step counters.new result) }
+    requires { Learnable leaves.now bytes.old known.old i counters.old }
+    ensures { (text : Text) → ActionHeld text a → KnownHeld text bytes.old known.old counters.old → Learning (learning on.separators (as_action text a) (live_texts leaves.now store.now i 1)) on.sweep text bytes.old known.old counters.old bytes.new known.new (after_step counters.new result) }
 {
-    let row = i * 8;
-    if cells[row + 3] != 0 {
+    if leaves[i].gone {
         return Ok(());
     }
-    learn_at(on, a, i, cells, store, bytes, known, counters)
+    learn_at(on, a, i, leaves, store, bytes, known, counters)
 }
 
 // Learns what the leaves from leaf first to before leaf end say that have not vanished.
@@ -101,17 +97,17 @@ fn learn_all(
     a: Action,
     first: usize,
     end: usize,
-    cells: &[usize],
+    leaves: &[Leaf],
     store: &[u8; 98304],
     bytes: &mut [u8; 65536],
-    known: &mut [usize; KNOWN_CELLS],
+    known: &mut [Known; LEARNT_MAX],
     counters: &mut Counters,
 ) -> Result<(), Refusal>
-    requires { AllLearnable cells.now first end × GoodKnown bytes.old known.old counters.old.known counters.old.known_used }
-    ensures { (text : Text) → ActionHeld text a → KnownHeld text bytes.old known.old counters.old → Learning (learning on.separators (as_action text a) (live_texts cells.now store.now first (end - first))) on.sweep text bytes.old known.old counters.old bytes.new known.new (after_step counters.new result) }
+    requires { AllLearnable leaves.now first end × GoodKnown bytes.old known.old counters.old.known counters.old.known_used }
+    ensures { (text : Text) → ActionHeld text a → KnownHeld text bytes.old known.old counters.old → Learning (learning on.separators (as_action text a) (live_texts leaves.now store.now first (end - first))) on.sweep text bytes.old known.old counters.old bytes.new known.new (after_step counters.new result) }
 {
     for i in first..end {
-        learn_live(on, a, i, cells, store, bytes, known, counters)?;
+        learn_live(on, a, i, leaves, store, bytes, known, counters)?;
     }
     Ok(())
 }
@@ -123,16 +119,16 @@ fn put_null_change(
     a: Action,
     text: &[u8],
     went: usize,
-    cells: &mut [usize],
+    leaves: &mut [Leaf],
     store: &mut [u8; 98304],
     report: &mut [u8],
     counters: &mut Counters,
 ) -> Result<(), Refusal>
-    requires { ActionHeld text.now a × NodeReady cells.old store.old n at.index at.end counters.old × (length text.now ≤ INPUT_MAX) }
-    ensures { Change true (becomes NULL) (row (as_label at.label) (place_at cells.old at.index) (as_action text.now a)) went n at.index cells.old store.old report.old counters.old cells.new store.new report.new (after_step counters.new result) }
+    requires { ActionHeld text.now a × NodeReady leaves.old store.old n at.index at.end counters.old × (length text.now ≤ INPUT_MAX) }
+    ensures { Change true (becomes NULL) (row (as_label at.label) (place_at leaves.old at.index) (as_action text.now a)) went n at.index leaves.old store.old report.old counters.old leaves.new store.new report.new (after_step counters.new result) }
 {
     if let Some(came) = put_null(store, went, *counters)? {
-        put_change(at, a, text, went, came, cells, report, counters);
+        put_change(at, a, text, went, came, leaves, report, counters);
     }
     Ok(())
 }
@@ -143,23 +139,22 @@ fn null_node(
     n: usize,
     a: Action,
     text: &[u8],
-    cells: &mut [usize],
+    leaves: &mut [Leaf],
     store: &mut [u8; 98304],
     report: &mut [u8],
     counters: &mut Counters,
 ) -> Result<(), Refusal>
-    requires { ActionHeld text.now a × NodeReady cells.old store.old n at.index at.end counters.old × (length text.now ≤ INPUT_MAX) }
-    ensures { Change true (collapse true (already cells.old store.old at.index at.end)) (row (as_label at.label) (place_at cells.old at.index) (as_action text.now a)) (size (live_texts cells.old store.old at.index (at.end - at.index)) - 1) n at.index cells.old store.old report.old counters.old cells.new store.new report.new (after_step counters.new result) }
+    requires { ActionHeld text.now a × NodeReady leaves.old store.old n at.index at.end counters.old × (length text.now ≤ INPUT_MAX) }
+    ensures { Change true (collapse true (already leaves.old store.old at.index at.end)) (row (as_label at.label) (place_at leaves.old at.index) (as_action text.now a)) (size (live_texts leaves.old store.old at.index (at.end - at.index)) - 1) n at.index leaves.old store.old report.old counters.old leaves.new store.new report.new (after_step counters.new result) }
 {
     let i = at.index;
-    let row = i * 8;
-    let start = cells[row + 1];
-    let len = cells[row + 2];
-    let rest = leaves_size(i + 1, at.end, cells);
-    if is_null(&store[start..start + len]) & (rest == 0) {
+    let leaf = leaves[i];
+    let rest = leaves_size(i + 1, at.end, leaves);
+    if is_null(leaf.text(store)) & (rest == 0) {
         return Ok(());
     }
-    put_null_change(at, n, a, text, len + rest, cells, store, report, counters)
+    let went = leaf.len + rest;
+    put_null_change(at, n, a, text, went, leaves, store, report, counters)
 }
 
 // The collapse of the node whose first leaf this is, in a segment whose leaves end before index at.end.
@@ -168,26 +163,26 @@ fn collapse_node(
     at: Spot,
     rule: Rule,
     text: &[u8],
-    cells: &mut [usize],
+    leaves: &mut [Leaf],
     store: &mut [u8; 98304],
     report: &mut [u8],
     bytes: &mut [u8; 65536],
-    known: &mut [usize; KNOWN_CELLS],
+    known: &mut [Known; LEARNT_MAX],
     counters: &mut Counters,
 ) -> Result<(), Refusal>
-    requires { ActionHeld text.now rule.action × (is_node (reach (as_rule text.now rule)) ≡ true) × (covers (as_rule text.now rule) (as_label at.label) (place_at cells.old at.index) ≡ true) × (starts_at (reach (as_rule text.now rule)) (place_at cells.old at.index) ≡ true) × NodeReady cells.old store.old on.leaves at.index at.end counters.old × KnownHeld text.now bytes.old known.old counters.old × (length text.now ≤ INPUT_MAX) × (on.leaves ≤ LEAVES_MAX) }
-    ensures { (named : List Bool) → Visit (λ ks. rule_pass on.key on.separators (as_rule text.now rule)) true on at text.now (buffers named cells.old store.old report.old bytes.old known.old) counters.old (buffers named cells.new store.new report.new bytes.new known.new) (after_step counters.new result) }
+    requires { ActionHeld text.now rule.action × (is_node (reach (as_rule text.now rule)) ≡ true) × (covers (as_rule text.now rule) (as_label at.label) (place_at leaves.old at.index) ≡ true) × (starts_at (reach (as_rule text.now rule)) (place_at leaves.old at.index) ≡ true) × NodeReady leaves.old store.old on.leaves at.index at.end counters.old × KnownHeld text.now bytes.old known.old counters.old × (length text.now ≤ INPUT_MAX) × (on.leaves ≤ LEAVES_MAX) }
+    ensures { (named : List Bool) → Visit (λ ks. rule_pass on.key on.separators (as_rule text.now rule)) true on at text.now (buffers named leaves.old store.old report.old bytes.old known.old) counters.old (buffers named leaves.new store.new report.new bytes.new known.new) (after_step counters.new result) }
 {
     let a = rule.action;
     let i = at.index;
-    let end = node_end(reach_of(rule), i, at.end, cells);
-    learn_all(on, a, i, end, cells, store, bytes, known, counters)?;
+    let end = node_end(reach_of(rule), i, at.end, leaves);
+    learn_all(on, a, i, end, leaves, store, bytes, known, counters)?;
     null_node(
         Spot { end, ..at },
         on.leaves,
         a,
         text,
-        cells,
+        leaves,
         store,
         report,
         counters,
@@ -200,22 +195,22 @@ pub fn collapse_leaf(
     at: Spot,
     rule: Rule,
     text: &[u8],
-    cells: &mut [usize],
+    leaves: &mut [Leaf],
     store: &mut [u8; 98304],
     report: &mut [u8],
     bytes: &mut [u8; 65536],
-    known: &mut [usize; KNOWN_CELLS],
+    known: &mut [Known; LEARNT_MAX],
     counters: &mut Counters,
 ) -> Result<(), Refusal>
-    requires { ActionHeld text.now rule.action × (is_node (reach (as_rule text.now rule)) ≡ true) × (covers (as_rule text.now rule) (as_label at.label) (place_at cells.old at.index) ≡ true) × NodeReady cells.old store.old on.leaves at.index at.end counters.old × KnownHeld text.now bytes.old known.old counters.old × (length text.now ≤ INPUT_MAX) × (on.leaves ≤ LEAVES_MAX) }
-    ensures { (named : List Bool) → Visit (λ ks. rule_pass on.key on.separators (as_rule text.now rule)) true on at text.now (buffers named cells.old store.old report.old bytes.old known.old) counters.old (buffers named cells.new store.new report.new bytes.new known.new) (after_step counters.new result) }
+    requires { ActionHeld text.now rule.action × (is_node (reach (as_rule text.now rule)) ≡ true) × (covers (as_rule text.now rule) (as_label at.label) (place_at leaves.old at.index) ≡ true) × NodeReady leaves.old store.old on.leaves at.index at.end counters.old × KnownHeld text.now bytes.old known.old counters.old × (length text.now ≤ INPUT_MAX) × (on.leaves ≤ LEAVES_MAX) }
+    ensures { (named : List Bool) → Visit (λ ks. rule_pass on.key on.separators (as_rule text.now rule)) true on at text.now (buffers named leaves.old store.old report.old bytes.old known.old) counters.old (buffers named leaves.new store.new report.new bytes.new known.new) (after_step counters.new result) }
 {
     let i = at.index;
-    if !starts(reach_of(rule), place_at(cells, i)) {
-        set_gone(cells, i);
+    if !starts(reach_of(rule), leaves[i].place) {
+        set_gone(leaves, i);
         return Ok(());
     }
     collapse_node(
-        on, at, rule, text, cells, store, report, bytes, known, counters,
+        on, at, rule, text, leaves, store, report, bytes, known, counters,
     )
 }

@@ -34,9 +34,9 @@ pub record Visited (P : List Known → Pass) (node : Bool) (on : Setting) (at : 
   pub held : Held text on.leaves β' c'
   pub here : leaves β' at.index ≡ (P (knowing text β c)).leaf (as_label at.label) (leaves β at.index) (list_of (leaves β) (suc at.index) (at.end - suc at.index))
   pub other : (j : ℕ) → j < on.leaves → (j ≡ at.index → ⊥) → leaves β' j ≡ leaves β j
-  pub lens : (j : ℕ) → (j ≡ at.index → ⊥) → live_len β'.cells j ≡ live_len β.cells j
+  pub lens : (j : ℕ) → (j ≡ at.index → ⊥) → live_len β'.held j ≡ live_len β.held j
   pub kept : Kept β β'
-  pub paid : node ≡ false → c'.used + c.size ≤ c.used + c'.size + live_len β.cells at.index
+  pub paid : node ≡ false → c'.used + c.size ≤ c.used + c'.size + live_len β.held at.index
   pub flat : node ≡ true → c'.used ≤ c.used + 2
   pub grows : c.used ≤ c'.used
   pub rows : c'.rows ≤ c.rows + 1

@@ -1,5 +1,5 @@
 // One leaf: its mark, its new text, and its row.
-ghost use Rattle.std.specs.Prelude.{◌+◌, ◌*◌, ◌≤◌, ◌<◌, ◌^◌, length};
+ghost use Rattle.std.specs.Prelude.{◌+◌, ◌≤◌, ◌<◌, ◌^◌, length};
 ghost use Rattle.er7_redact.specs.Action.{as_action, ActionHeld};
 ghost use Rattle.run_model.specs.Redact.{row};
 ghost use Rattle.run_model.specs.Redact as Redact;
@@ -11,7 +11,7 @@ ghost use Rattle.refusal.specs.Limits.{INPUT_MAX};
 use er7::message::Label;
 use er7_redact::action::Action;
 use er7_render::store::set_text;
-use er7_table::table::place_at;
+use er7_table::table::Leaf;
 use redact_5_act::act::act;
 use redact_5_act::state::{Counters, Setting};
 use redact_6_row::report::row_at;
@@ -34,23 +34,24 @@ pub fn mark(named: &mut [bool], i: usize)
 }
 
 // The leaf has its new text of came bytes behind the last one in the store, and went bytes of the message go: its row of the table and its row of the report.
+#[tactic(auto, unfolding(er7_table::specs::Table::place_at))]
 pub fn put_change(
     at: Spot,
     a: Action,
     text: &[u8],
     went: usize,
     came: usize,
-    cells: &mut [usize],
+    leaves: &mut [Leaf],
     report: &mut [u8],
     counters: &mut Counters,
 )
-    requires { ActionHeld text.now a × (at.index * 8 + 8 ≤ length cells.old) × Countable came counters.old × (length text.now ≤ INPUT_MAX) }
-    ensures { ChangePut (row (as_label at.label) (place_at cells.old at.index) (as_action text.now a)) at.index went came cells.old report.old counters.old cells.new report.new counters.new }
+    requires { ActionHeld text.now a × (at.index < length leaves.old) × Countable came counters.old × (length text.now ≤ INPUT_MAX) }
+    ensures { ChangePut (row (as_label at.label) (place_at leaves.old at.index) (as_action text.now a)) at.index went came leaves.old report.old counters.old leaves.new report.new counters.new }
 {
     let c = *counters;
     let i = at.index;
-    let p = place_at(cells, i);
-    set_text(cells, i, c.used, came);
+    let p = leaves[i].place;
+    set_text(leaves, i, c.used, came);
     *counters = Counters {
         rows: c.rows + 1,
         report_len: row_at(report, c.report_len, at.label, p, a, text),
@@ -66,20 +67,18 @@ pub fn act_on(
     at: Spot,
     a: Action,
     text: &[u8],
-    cells: &mut [usize],
+    leaves: &mut [Leaf],
     store: &mut [u8; 98304],
     report: &mut [u8],
     bytes: &mut [u8; 65536],
     counters: &mut Counters,
 ) -> Result<(), Refusal>
-    requires { ActionHeld text.now a × Ready cells.old store.old on.leaves at.index counters.old × (length text.now ≤ INPUT_MAX) }
-    ensures { ActedOn (Redact.act on.key on.separators (as_action text.now a) (text_in cells.old store.old at.index)) (row (as_label at.label) (place_at cells.old at.index) (as_action text.now a)) on.leaves at.index cells.old store.old report.old bytes.old counters.old cells.new store.new report.new bytes.new (after_step counters.new result) }
+    requires { ActionHeld text.now a × Ready leaves.old store.old on.leaves at.index counters.old × (length text.now ≤ INPUT_MAX) }
+    ensures { ActedOn (Redact.act on.key on.separators (as_action text.now a) (text_in leaves.old store.old at.index)) (row (as_label at.label) (place_at leaves.old at.index) (as_action text.now a)) on.leaves at.index leaves.old store.old report.old bytes.old counters.old leaves.new store.new report.new bytes.new (after_step counters.new result) }
 {
-    let row = at.index * 8;
-    let start = cells[row + 1];
-    let len = cells[row + 2];
+    let Leaf { start, len, .. } = leaves[at.index];
     if let Some(came) = act(on, a, text, start, len, store, bytes, *counters)? {
-        put_change(at, a, text, len, came, cells, report, counters);
+        put_change(at, a, text, len, came, leaves, report, counters);
     }
     Ok(())
 }

@@ -7,35 +7,34 @@ ghost use Rattle.redact_5_act.specs.State.{after_step};
 ghost use Rattle.redact_4_leaf.specs.State.{text_in, KnownHeld, Learning, Readable};
 
 use er7_redact::action::Action;
-use redact_5_act::known::{KNOWN_CELLS, learn_leaf};
+use er7_table::table::Leaf;
+use redact_5_act::known::{Known, learn_leaf};
 use redact_5_act::state::{Counters, Setting};
 use refusal::Refusal;
+use refusal::limits::LEARNT_MAX;
 
 // Learns what leaf i says, with the action a, if there is to be a sweep.
 pub fn learn_at(
     on: Setting,
     a: Action,
     i: usize,
-    cells: &[usize],
+    leaves: &[Leaf],
     store: &[u8; 98304],
     bytes: &mut [u8; 65536],
-    known: &mut [usize; KNOWN_CELLS],
+    known: &mut [Known; LEARNT_MAX],
     counters: &mut Counters,
 ) -> Result<(), Refusal>
-    requires { Readable cells.now bytes.old known.old i counters.old }
-    ensures { (text : Text) → ActionHeld text a → KnownHeld text bytes.old known.old counters.old → Learning (learning on.separators (as_action text a) (text_in cells.now store.now i ∷ [])) on.sweep text bytes.old known.old counters.old bytes.new known.new (after_step counters.new result) }
+    requires { Readable leaves.now bytes.old known.old i counters.old }
+    ensures { (text : Text) → ActionHeld text a → KnownHeld text bytes.old known.old counters.old → Learning (learning on.separators (as_action text a) (text_in leaves.now store.now i ∷ [])) on.sweep text bytes.old known.old counters.old bytes.new known.new (after_step counters.new result) }
 {
     if !on.sweep {
         return Ok(());
     }
     let c = *counters;
-    let at = i * 8;
-    let start = cells[at + 1];
-    let end = start + cells[at + 2];
     let (count, used) = learn_leaf(
         a,
         on.separators,
-        &store[start..end],
+        leaves[i].text(store),
         bytes,
         known,
         c.known,

@@ -13,9 +13,11 @@ use super::leaf::{Spot, act_on};
 use super::learn::learn_at;
 use er7_redact::action::is_keep;
 use er7_redact::policy::Rule;
-use redact_5_act::known::{KNOWN_CELLS, action_at, for_sweep};
+use er7_table::table::Leaf;
+use redact_5_act::known::{Known, for_sweep};
 use redact_5_act::state::{Counters, Setting};
 use refusal::Refusal;
+use refusal::limits::LEARNT_MAX;
 
 // A rule that acts on each leaf, on a leaf that it covers and that is named by now: unless it is kept, it is learnt and acted on.
 pub fn apply_leaf(
@@ -23,22 +25,22 @@ pub fn apply_leaf(
     at: Spot,
     rule: Rule,
     text: &[u8],
-    cells: &mut [usize],
+    leaves: &mut [Leaf],
     store: &mut [u8; 98304],
     report: &mut [u8],
     bytes: &mut [u8; 65536],
-    known: &mut [usize; KNOWN_CELLS],
+    known: &mut [Known; LEARNT_MAX],
     counters: &mut Counters,
 ) -> Result<(), Refusal>
-    requires { ActionHeld text.now rule.action × (reach (as_rule text.now rule) ≡ each_leaf) × (covers (as_rule text.now rule) (as_label at.label) (place_at cells.old at.index) ≡ true) × Ready cells.old store.old on.leaves at.index counters.old × KnownHeld text.now bytes.old known.old counters.old × (length text.now ≤ INPUT_MAX) × (on.leaves ≤ LEAVES_MAX) }
-    ensures { (named named' : List Bool) → Marked named at.index named' → Visit (λ ks. rule_pass on.key on.separators (as_rule text.now rule)) false on at text.now (buffers named cells.old store.old report.old bytes.old known.old) counters.old (buffers named' cells.new store.new report.new bytes.new known.new) (after_step counters.new result) }
+    requires { ActionHeld text.now rule.action × (reach (as_rule text.now rule) ≡ each_leaf) × (covers (as_rule text.now rule) (as_label at.label) (place_at leaves.old at.index) ≡ true) × Ready leaves.old store.old on.leaves at.index counters.old × KnownHeld text.now bytes.old known.old counters.old × (length text.now ≤ INPUT_MAX) × (on.leaves ≤ LEAVES_MAX) }
+    ensures { (named named' : List Bool) → Marked named at.index named' → Visit (λ ks. rule_pass on.key on.separators (as_rule text.now rule)) false on at text.now (buffers named leaves.old store.old report.old bytes.old known.old) counters.old (buffers named' leaves.new store.new report.new bytes.new known.new) (after_step counters.new result) }
 {
     let a = rule.action;
     if is_keep(a) {
         return Ok(());
     }
-    learn_at(on, a, at.index, cells, store, bytes, known, counters)?;
-    act_on(on, at, a, text, cells, store, report, bytes, counters)
+    learn_at(on, a, at.index, leaves, store, bytes, known, counters)?;
+    act_on(on, at, a, text, leaves, store, report, bytes, counters)
 }
 
 // The sweep on a leaf that is not named: the action of the longest learnt value that is a whole word of it.
@@ -46,23 +48,20 @@ pub fn sweep_leaf(
     on: Setting,
     at: Spot,
     text: &[u8],
-    cells: &mut [usize],
+    leaves: &mut [Leaf],
     store: &mut [u8; 98304],
     report: &mut [u8],
     bytes: &mut [u8; 65536],
-    known: &[usize; KNOWN_CELLS],
+    known: &[Known; LEARNT_MAX],
     counters: &mut Counters,
 ) -> Result<(), Refusal>
-    requires { KnownHeld text.now bytes.old known.now counters.old × Ready cells.old store.old on.leaves at.index counters.old × (length text.now ≤ INPUT_MAX) × (on.leaves ≤ LEAVES_MAX) }
-    ensures { (named : List Bool) → is_unnamed (as_label at.label) (place_at cells.old at.index) (marked named at.index) ≡ true → Visit (λ ks. unnamed_pass on.key on.separators (for_sweep on.separators ks)) false on at text.now (buffers named cells.old store.old report.old bytes.old known.now) counters.old (buffers named cells.new store.new report.new bytes.new known.now) (after_step counters.new result) }
+    requires { KnownHeld text.now bytes.old known.now counters.old × Ready leaves.old store.old on.leaves at.index counters.old × (length text.now ≤ INPUT_MAX) × (on.leaves ≤ LEAVES_MAX) }
+    ensures { (named : List Bool) → is_unnamed (as_label at.label) (place_at leaves.old at.index) (marked named at.index) ≡ true → Visit (λ ks. unnamed_pass on.key on.separators (for_sweep on.separators ks)) false on at text.now (buffers named leaves.old store.old report.old bytes.old known.now) counters.old (buffers named leaves.new store.new report.new bytes.new known.now) (after_step counters.new result) }
 {
     let c = *counters;
-    let row = at.index * 8;
-    let start = cells[row + 1];
-    let end = start + cells[row + 2];
     let Some(k) = for_sweep(
         on.separators,
-        &store[start..end],
+        leaves[at.index].text(store),
         bytes,
         known,
         c.known,
@@ -70,6 +69,15 @@ pub fn sweep_leaf(
     ) else {
         return Ok(());
     };
-    let a = action_at(known, k);
-    act_on(on, at, a, text, cells, store, report, bytes, counters)
+    act_on(
+        on,
+        at,
+        known[k].action,
+        text,
+        leaves,
+        store,
+        report,
+        bytes,
+        counters,
+    )
 }

@@ -1,28 +1,30 @@
 -- Laws of the learnt values. Assumes nothing.
-use Rattle.std.proofs.Common.{◌≡◌, refl, sym, ap, ◌∙◌, Bool, true, false, cond, ◌||◌, List, [], ◌∷◌, ℕ, zero, suc, ◌+◌, ◌-◌, ◌*◌, ◌≤◌, ◌<◌, leb, ltb, length, get_or, take, drop, set, Some, None}
-use Rattle.std.proofs.Common.{arith, le-leb, leb-true, le-ltb, lt-ltb, length-take, length-set, get_or-set_same, get_or-set_other}
+use Rattle.std.proofs.Common.{◌≡◌, refl, sym, ap, ◌∙◌, Bool, true, false, cond, List, [], ◌∷◌, ℕ, zero, suc, ◌+◌, ◌-◌, ◌≤◌, ◌<◌, leb, ltb, length, get_or, take, drop, MatchBool, Some, None}
+use Rattle.std.proofs.Common.{arith, le-leb, leb-true, le-ltb, lt-ltb, length-take, get_or-take}
 use Rattle.std.proofs.Common.{Option as Maybe}
 use Rattle.std.proofs.Math.Option.{Option, some}
 use borrow.Author.Tests.{lt-leb}
-use native.Mathlib.Nat.{sub-zero}
 use Rattle.text.specs.Text.{Text, same, part}
 use Rattle.text.proofs.Runs.{part_slice}
 use Rattle.text.proofs.Kept.{part_length}
-use Rattle.text.proofs.Laws.{and_left, and_right, and_false, split}
+use Rattle.std.specs.List.{HoldsAt, AllWithin}
+use Rattle.std.proofs.lemmas.List.{get_or_read}
+use Rattle.text.proofs.Laws.{and_left, and_right, and_false, or_true, split}
 use Rattle.text.proofs.Words.{same_eq}
-use Rattle.er7_redact.specs.declared.action.Action.{Action as HeldAction}
+use Rattle.er7_redact.specs.declared.action.Action.TheVariants as Held
 use Rattle.message_model.specs.Value.{is_whole_word}
 use Rattle.er7_value.specs.Starts.{Starts}
 use Rattle.er7_value.proofs.Hits.{part_first}
 use Rattle.er7_value.proofs.Starts.{word_unmarked}
 use Rattle.run_model.specs.Redact.{Known, knows, longer_of, longest_found}
 use Rattle.run_model.proofs.Chains.{cond_both}
-use Rattle.redact_5_act.specs.Known.{action_of, hash_of, value_at, action_at, known_at, known_from, Slot, Slots, GoodKnown}
-use Rattle.redact_5_act.specs.Inner.{first_marked, has_value, RowFound, RowPut}
+use Rattle.redact_5_act.specs.Known.{row, value_of, hash_of, value_at, known_at, known_from, Slot, Slots, GoodKnown}
+use Rattle.redact_5_act.specs.declared.known.Known.{Known as HeldKnown}
+use Rattle.redact_5_act.specs.Inner.{first_marked, has_value, RowFound}
 
 -- ---- lists of rows
 
-module _ (t b : Text) (k : List ℕ) where
+module _ (t b : Text) (k : List HeldKnown) where
   pub known_next : (i n : ℕ) → i < n → known_from t b k i (n - i) ≡ known_at t b k i ∷ known_from t b k (i + 1) (n - (i + 1))
   unfolding known_from
   known_next i n h = let q : n - i ≡ suc (n - (i + 1)) = omega arith in rw q
@@ -36,29 +38,41 @@ module _ (t b : Text) (k : List ℕ) where
   known_length i zero = refl
   known_length i (suc n) = ap suc (known_length (i + 1) n)
 
-pub good_slots : {b : Text} {k : List ℕ} {n used : ℕ} → GoodKnown b k n used → Slots b k n
+-- what stands in the table where no value is learnt yet
+abbrev UNKNOWN : HeldKnown
+UNKNOWN = record { hash = 0; start = 0; len = 0; action = Held.Keep }
+
+-- one of the first n rows
+module _ (k : List HeldKnown) (n : ℕ) {i : ℕ} (h : i < length (take n k)) where
+  pub row_low : i < n
+  row_low = omega (arith, length-take n k, h)
+
+  pub row_of : get_or (take n k) i UNKNOWN ≡ row k i
+  row_of = get_or-take n k i _ row_low
+
+pub good_slots : {b : Text} {k : List HeldKnown} {n used : ℕ} → GoodKnown b k n used → Slots b k n
 good_slots {b} {k} {n} g = record {
   few = g.few;
-  slot = λ i h. record { row = omega (arith, g.few); inside = omega (arith, (g.slots i h).0, g.within); long = (g.slots i h).1; hash = g.hashes i h };
+  slot = λ i h. record { inside = omega (arith, (g.slots i h).0, g.within); long = (g.slots i h).1; hash = g.hashes i h };
 }
 
 pub word_of_part : (b : Text) (i n : ℕ) (v : Text) {r : Bool} → r ≡ is_whole_word (take (i + n - i) (drop i b)) v → r ≡ is_whole_word (part b i n) v
 word_of_part b i n v e = e ∙ ap (λ (w : Text). is_whole_word w v) (part_slice b i n)
 
 -- the first byte of a row's value
-first_byte : {b : Text} {k : List ℕ} {i : ℕ} → Slot b k i → get_or (value_at b k i) 0 0 ≡ get_or b (get_or k (i * 8 + 1) 0) 0
-unfolding value_at part
-first_byte {b} {k} {i} g = part_first b (get_or k (i * 8 + 1) 0) (get_or k (i * 8 + 2) 0) (let h = simp length-take at g.long in omega (arith, h))
+first_byte : {b : Text} {r : HeldKnown} → Slot b r → get_or (value_of b r) 0 0 ≡ get_or b r.start 0
+unfolding value_of part
+first_byte {b} {r} g = part_first b r.start r.len (let h = simp length-take at g.long in omega (arith, h))
 
 -- whether it is marked; where it is not, the value is no word
-module _ {b : Text} {k : List ℕ} {i : ℕ} (starts : List Bool) (g : Slot b k i) where
-  pub first_mark : get_or starts (get_or b (get_or k (i * 8 + 1) 0) 0) false ≡ first_marked starts (value_at b k i)
+module _ {b : Text} {r : HeldKnown} (starts : List Bool) (g : Slot b r) where
+  pub first_mark : get_or starts (get_or b r.start 0) false ≡ first_marked starts (value_of b r)
   unfolding first_marked
   first_mark = ap (λ (x : ℕ). get_or starts x false) (sym (first_byte g))
 
-  pub not_marked : {v : Text} → Starts v starts → first_marked starts (value_at b k i) ≡ false → false ≡ is_whole_word (value_at b k i) v
+  pub not_marked : {v : Text} → Starts v starts → first_marked starts (value_of b r) ≡ false → false ≡ is_whole_word (value_of b r) v
   unfolding first_marked
-  not_marked {v} s e = sym (word_unmarked (value_at b k i) v s (omega (arith, g.long)) e)
+  not_marked {v} s e = sym (word_unmarked (value_of b r) v s (omega (arith, g.long)) e)
 
 -- texts with different hashes differ
 pub other_hash : (w v : Text) {x h : ℕ} → h ≡ hash_of w → x ≡ hash_of v → (x ≡ h → ⊥) → false ≡ same w v
@@ -68,69 +82,75 @@ other_hash w v e f g = by_same (same w v) refl
     by_same false q = refl
     by_same true q = absurd (g (f ∙ ap hash_of (sym (same_eq w v q)) ∙ sym e))
 
--- ---- a value among n rows: those before row i are others
+-- ---- a value among n rows
 
-pub record Looking (v b : Text) (k : List ℕ) (n i : ℕ) : Type 0 where
-  pub high : i ≤ n
-  pub is : (t : Text) → knows v (known_from t b k 0 n) ≡ knows v (known_from t b k i (n - i))
+module _ (v b : Text) (k : List HeldKnown) (t : Text) where
+  known_here : (n i j : ℕ) → i ≤ j → j < i + n → same v (value_at b k j) ≡ true → knows v (known_from t b k i n) ≡ true
+  unfolding knows known_from known_at
+  known_here zero i j l h e = absurd (omega arith)
+  known_here (suc n) i j l h e = split i j
+      (λ q. rw (known_here n (i + 1) j (omega arith) (omega arith) e) (or_true (same v (value_at b k i))))
+      (λ q. let z : i ≡ j = omega arith in rw (z, e))
 
-module _ {v b : Text} {k : List ℕ} {n : ℕ} where
-  pub looking_start : Looking v b k n 0
-  looking_start = record { high = omega arith; is = λ t. rw (sub-zero n) refl }
+  known_nowhere : (n i : ℕ) → ((j : ℕ) → i ≤ j → j < i + n → same v (value_at b k j) ≡ false) → knows v (known_from t b k i n) ≡ false
+  unfolding knows known_from known_at
+  known_nowhere zero i f = refl
+  known_nowhere (suc n) i f = rw (f i (omega arith) (omega arith)) (known_nowhere n (i + 1) (λ j l h. f j (omega arith) (omega arith)))
 
-  module _ {i : ℕ} (g : Looking v b k n i) where
-    pub looking_end : n ≤ i → (t : Text) → false ≡ knows v (known_from t b k 0 n)
-    unfolding knows
-    looking_end h t = sym (g.is t ∙ rw (known_none t b k i n h))
+-- one that was read lies in the bytes
+pub slot_read : {b : Text} {k : List HeldKnown} {n : ℕ} → Slots b k n → {i : ℕ} (x : HeldKnown) → i < length (take n k) → x ≡ get_or (take n k) i x → Slot b x
+slot_read {k = k} {n = n} s {i} x h e = rw (get_or_read (take n k) i x h e UNKNOWN ∙ row_of k n h) (s.slot i (row_low k n h))
 
-    module _ (h : i < n) where
-      step : (t : Text) → knows v (known_from t b k 0 n) ≡ same v (value_at b k i) || knows v (known_from t b k (i + 1) (n - (i + 1)))
-      unfolding knows known_at
-      step t = g.is t ∙ ap (knows v) (known_next t b k i n h)
-
-      pub looking_found : same v (value_at b k i) ≡ true → (t : Text) → true ≡ knows v (known_from t b k 0 n)
-      looking_found e t = sym (step t ∙ rw e)
-
-      pub looking_more : same v (value_at b k i) ≡ false → Looking v b k n (i + 1)
-      looking_more e = record { high = omega arith; is = λ t. step t ∙ rw e }
+module _ (v : Text) {b : Text} {k : List HeldKnown} {n : ℕ} where
+  -- by the answer whether any is the value
+  pub knows_any : Slots b k n → n ≤ length k → (r : Bool)
+      → MatchBool r ((i : ℕ) × (i < length (take n k)) × HoldsAt (λ (x : HeldKnown). same v (value_of b x) ≡ true) (take n k) i) (AllWithin (λ (x : HeldKnown). same v (value_of b x) ≡ false) (take n k) 0 (length (take n k)))
+      → (t : Text) → r ≡ knows v (known_from t b k 0 n)
+  knows_any s m true h t =
+      let l = h.1 in
+      sym (known_here v b k t n 0 h.0 (omega arith) (omega (arith, row_low k n l)) (rw (row_of k n l) at (h.2 UNKNOWN)))
+  knows_any s m false h t =
+      sym (known_nowhere v b k t n 0 (λ j l q.
+      let z : j < length (take n k) = omega (arith, length-take n k) in
+      rw (row_of k n z) at (h j UNKNOWN (omega arith) z)))
 
 -- ---- the longest value that is a word of v, from row i on
 
-value_length : {b : Text} {k : List ℕ} {i : ℕ} → length b ≡ 65536 → Slot b k i → length (value_at b k i) ≡ get_or k (i * 8 + 2) 0
-unfolding value_at
-value_length {b} {k} {i} l g = part_length b (get_or k (i * 8 + 1) 0) (get_or k (i * 8 + 2) 0) (omega (arith, g.inside))
+value_length : {b : Text} {r : HeldKnown} → length b ≡ 65536 → Slot b r → length (value_of b r) ≡ r.len
+unfolding value_of
+value_length {b} {r} l g = part_length b r.start r.len (omega (arith, g.inside))
 
 -- whether a row has a value that is long enough and found
-module _ (v b : Text) (k : List ℕ) (least i : ℕ) where
-  pub has_unmarked : is_whole_word (value_at b k i) v ≡ false → has_value v b k least i ≡ false
+module _ (v b : Text) (least : ℕ) (r : HeldKnown) where
+  pub has_unmarked : is_whole_word (value_of b r) v ≡ false → has_value v b least r ≡ false
   unfolding has_value
-  has_unmarked e = rw e (and_false (leb least (get_or k (i * 8 + 2) 0)))
+  has_unmarked e = rw e (and_false (leb least r.len))
 
-  pub has_shorter : get_or k (i * 8 + 2) 0 < least → has_value v b k least i ≡ false
+  pub has_shorter : r.len < least → has_value v b least r ≡ false
   unfolding has_value
-  has_shorter h = rw (lt-leb least (get_or k (i * 8 + 2) 0) h)
+  has_shorter h = rw (lt-leb least r.len h)
 
-  pub has_long : least ≤ get_or k (i * 8 + 2) 0 → is_whole_word (value_at b k i) v ≡ has_value v b k least i
+  pub has_long : least ≤ r.len → is_whole_word (value_of b r) v ≡ has_value v b least r
   unfolding has_value
-  has_long h = rw (le-leb least (get_or k (i * 8 + 2) 0) h)
+  has_long h = rw (le-leb least r.len h)
 
-  has_found : has_value v b k least i ≡ true → (least ≤ get_or k (i * 8 + 2) 0) × (is_whole_word (value_at b k i) v ≡ true)
+  has_found : has_value v b least r ≡ true → (least ≤ r.len) × (is_whole_word (value_of b r) v ≡ true)
   unfolding has_value
-  has_found e = (leb-true least (get_or k (i * 8 + 2) 0) (and_left _ _ e), and_right (leb least (get_or k (i * 8 + 2) 0)) _ e)
+  has_found e = (leb-true least r.len (and_left _ _ e), and_right (leb least r.len) _ e)
 
 -- ---- the row that is picked
 
 -- the least length of a value that is picked before that of the row `best`: any where there is no such row
-abbrev pub least_over : List ℕ → Maybe ℕ → ℕ
+abbrev pub least_over : List HeldKnown → Maybe ℕ → ℕ
 least_over k None = 0
-least_over k (Some r) = get_or k (r * 8 + 2) 0 + 1
+least_over k (Some r) = (row k r).len + 1
 
-pub row_none : {v b : Text} {k : List ℕ} {n : ℕ} → RowFound v b k n n None
+pub row_none : {v b : Text} {k : List HeldKnown} {n : ℕ} → RowFound v b k n n None
 unfolding longest_found
 row_none {b = b} {k = k} {n = n} = record { out = λ t. rw (known_none t b k n n (omega arith)) }
 
 -- row i, before the rows from which the row r is picked
-module _ (v b : Text) (k : List ℕ) (n i : ℕ) (h : i < n) where
+module _ (v b : Text) (k : List HeldKnown) (n i : ℕ) (h : i < n) where
   abbrev later : Text → Option Known
   later t = longest_found (known_from t b k (i + 1) (n - (i + 1))) v
 
@@ -146,110 +166,37 @@ module _ (v b : Text) (k : List ℕ) (n i : ℕ) (h : i < n) where
   module _ (l : length b ≡ 65536) (s : Slots b k n) where
     -- of row i and the row r the longer one
     longer_is : {r : ℕ} → RowFound v b k (i + 1) n (Some r) → (t : Text) → longer_of (known_at t b k i) (later t)
-        ≡ cond (ltb (get_or k (r * 8 + 2) 0) (get_or k (i * 8 + 2) 0)) (some (known_at t b k i)) (some (known_at t b k r))
+        ≡ cond (ltb ((row k r).len) ((row k i).len)) (some (known_at t b k i)) (some (known_at t b k r))
     unfolding longer_of known_at
     longer_is {r} g t = rw (g.out.1 t, value_length l (s.slot i h), value_length l (s.slot r g.out.0))
 
-    row_shorter : {r : ℕ} → RowFound v b k (i + 1) n (Some r) → get_or k (i * 8 + 2) 0 ≤ get_or k (r * 8 + 2) 0 → RowFound v b k i n (Some r)
+    row_shorter : {r : ℕ} → RowFound v b k (i + 1) n (Some r) → (row k i).len ≤ (row k r).len → RowFound v b k i n (Some r)
     row_shorter {r} g e = record {
-      out = (g.out.0, λ t. next t ∙ rw (longer_is g t, le-ltb (get_or k (r * 8 + 2) 0) (get_or k (i * 8 + 2) 0) e, g.out.1 t) (cond_both (is_whole_word (value_at b k i) v) (some (known_at t b k r))));
+      out = (g.out.0, λ t. next t ∙ rw (longer_is g t, le-ltb ((row k r).len) ((row k i).len) e, g.out.1 t) (cond_both (is_whole_word (value_at b k i) v) (some (known_at t b k r))));
     }
 
     -- it has no value that is long enough and found
-    row_no : (r : Maybe ℕ) → RowFound v b k (i + 1) n r → has_value v b k (least_over k r) i ≡ false → RowFound v b k i n r
-    row_no None g e = row_passed (has_long v b k 0 i (omega arith) ∙ e) None g
-    row_no (Some r) g e = split (get_or k (i * 8 + 2) 0) (get_or k (r * 8 + 2) 0 + 1)
+    row_no : (r : Maybe ℕ) → RowFound v b k (i + 1) n r → has_value v b (least_over k r) (row k i) ≡ false → RowFound v b k i n r
+    row_no None g e = row_passed (has_long v b 0 (row k i) (omega arith) ∙ e) None g
+    row_no (Some r) g e = split ((row k i).len) ((row k r).len + 1)
         (λ q. row_shorter g (omega arith))
-        (λ q. row_passed (has_long v b k (get_or k (r * 8 + 2) 0 + 1) i q ∙ e) (Some r) g)
+        (λ q. row_passed (has_long v b ((row k r).len + 1) (row k i) q ∙ e) (Some r) g)
 
     -- it has one
-    row_yes : (r : Maybe ℕ) → RowFound v b k (i + 1) n r → has_value v b k (least_over k r) i ≡ true → RowFound v b k i n (Some i)
+    row_yes : (r : Maybe ℕ) → RowFound v b k (i + 1) n r → has_value v b (least_over k r) (row k i) ≡ true → RowFound v b k i n (Some i)
     unfolding longer_of
-    row_yes None g e = record { out = (h, λ t. next t ∙ rw ((has_found v b k 0 i e).1, g.out t)) }
+    row_yes None g e = record { out = (h, λ t. next t ∙ rw ((has_found v b 0 (row k i) e).1, g.out t)) }
     row_yes (Some r) g e =
-        let f = has_found v b k (get_or k (r * 8 + 2) 0 + 1) i e in
-        record { out = (h, λ t. next t ∙ rw (f.1, longer_is g t, lt-ltb (get_or k (r * 8 + 2) 0) (get_or k (i * 8 + 2) 0) (omega (arith, f.0)))) }
+        let f = has_found v b ((row k r).len + 1) (row k i) e in
+        record { out = (h, λ t. next t ∙ rw (f.1, longer_is g t, lt-ltb ((row k r).len) ((row k i).len) (omega (arith, f.0)))) }
 
 -- the rows from row j on were looked at, and row j - 1 is the next
-module _ {v b : Text} {k : List ℕ} {n j least : ℕ} {r : Maybe ℕ} (l : length b ≡ 65536) (s : Slots b k n) (q : 0 < j) (h : j ≤ n) (g : RowFound v b k j n r × (least ≡ least_over k r)) where
+module _ {v b : Text} {k : List HeldKnown} {n j least : ℕ} {r : Maybe ℕ} (l : length b ≡ 65536) (s : Slots b k n) (q : 0 < j) (h : j ≤ n) (g : RowFound v b k j n r × (least ≡ least_over k r)) where
   before : RowFound v b k (j - 1 + 1) n r
   before = let e : j - 1 + 1 ≡ j = omega arith in rw e g.0
 
-  pub picked_before : has_value v b k least (j - 1) ≡ false → RowFound v b k (j - 1) n r
+  pub picked_before : has_value v b least (row k (j - 1)) ≡ false → RowFound v b k (j - 1) n r
   picked_before e = row_no v b k n (j - 1) (omega arith) l s r before (rw (← g.1) e)
 
-  pub picked_here : has_value v b k least (j - 1) ≡ true → RowFound v b k (j - 1) n (Some (j - 1))
+  pub picked_here : has_value v b least (row k (j - 1)) ≡ true → RowFound v b k (j - 1) n (Some (j - 1))
   picked_here e = row_yes v b k n (j - 1) (omega arith) l s r before (rw (← g.1) e)
-
--- ---- a row that is written
-
-module _ (k : List ℕ) (n h start len kind x y : ℕ) (l : n * 8 + 8 ≤ length k) where
-  abbrev k0 : List ℕ
-  k0 = set k (n * 8) h
-
-  abbrev k1 : List ℕ
-  k1 = set k0 (n * 8 + 1) start
-
-  abbrev k2 : List ℕ
-  k2 = set k1 (n * 8 + 2) len
-
-  abbrev k3 : List ℕ
-  k3 = set k2 (n * 8 + 3) kind
-
-  abbrev k4 : List ℕ
-  k4 = set k3 (n * 8 + 4) x
-
-  abbrev k5 : List ℕ
-  k5 = set k4 (n * 8 + 5) y
-
-  before_row : (j : ℕ) → j < n * 8 → get_or k5 j 0 ≡ get_or k j 0
-  before_row j m =
-      get_or-set_other k4 (n * 8 + 5) j y 0 (omega arith)
-      ∙ get_or-set_other k3 (n * 8 + 4) j x 0 (omega arith)
-      ∙ get_or-set_other k2 (n * 8 + 3) j kind 0 (omega arith)
-      ∙ get_or-set_other k1 (n * 8 + 2) j len 0 (omega arith)
-      ∙ get_or-set_other k0 (n * 8 + 1) j start 0 (omega arith)
-      ∙ get_or-set_other k (n * 8) j h 0 (omega arith)
-
-  hash_at : get_or k5 (n * 8) 0 ≡ h
-  hash_at =
-      get_or-set_other k4 (n * 8 + 5) (n * 8) y 0 (omega arith)
-      ∙ get_or-set_other k3 (n * 8 + 4) (n * 8) x 0 (omega arith)
-      ∙ get_or-set_other k2 (n * 8 + 3) (n * 8) kind 0 (omega arith)
-      ∙ get_or-set_other k1 (n * 8 + 2) (n * 8) len 0 (omega arith)
-      ∙ get_or-set_other k0 (n * 8 + 1) (n * 8) start 0 (omega arith)
-      ∙ get_or-set_same k (n * 8) h 0 (omega arith)
-
-  start_at : get_or k5 (n * 8 + 1) 0 ≡ start
-  start_at =
-      get_or-set_other k4 (n * 8 + 5) (n * 8 + 1) y 0 (omega arith)
-      ∙ get_or-set_other k3 (n * 8 + 4) (n * 8 + 1) x 0 (omega arith)
-      ∙ get_or-set_other k2 (n * 8 + 3) (n * 8 + 1) kind 0 (omega arith)
-      ∙ get_or-set_other k1 (n * 8 + 2) (n * 8 + 1) len 0 (omega arith)
-      ∙ get_or-set_same k0 (n * 8 + 1) start 0 (simp length-set (omega arith))
-
-  len_at : get_or k5 (n * 8 + 2) 0 ≡ len
-  len_at =
-      get_or-set_other k4 (n * 8 + 5) (n * 8 + 2) y 0 (omega arith)
-      ∙ get_or-set_other k3 (n * 8 + 4) (n * 8 + 2) x 0 (omega arith)
-      ∙ get_or-set_other k2 (n * 8 + 3) (n * 8 + 2) kind 0 (omega arith)
-      ∙ get_or-set_same k1 (n * 8 + 2) len 0 (simp length-set (omega arith))
-
-  kind_at : get_or k5 (n * 8 + 3) 0 ≡ kind
-  kind_at =
-      get_or-set_other k4 (n * 8 + 5) (n * 8 + 3) y 0 (omega arith)
-      ∙ get_or-set_other k3 (n * 8 + 4) (n * 8 + 3) x 0 (omega arith)
-      ∙ get_or-set_same k2 (n * 8 + 3) kind 0 (simp length-set (omega arith))
-
-  x_at : get_or k5 (n * 8 + 4) 0 ≡ x
-  x_at =
-      get_or-set_other k4 (n * 8 + 5) (n * 8 + 4) y 0 (omega arith)
-      ∙ get_or-set_same k3 (n * 8 + 4) x 0 (simp length-set (omega arith))
-
-  y_at : get_or k5 (n * 8 + 5) 0 ≡ y
-  y_at =
-      get_or-set_same k4 (n * 8 + 5) y 0 (simp length-set (omega arith))
-
-  pub row_put : {a : HeldAction} → action_of kind x y ≡ a → RowPut k n h start len a (set (set (set (set (set (set k (n * 8) h) (n * 8 + 1) start) (n * 8 + 2) len) (n * 8 + 3) kind) (n * 8 + 4) x) (n * 8 + 5) y)
-  unfolding action_at
-  row_put e = record { hashed = hash_at; starts = start_at; lasts = len_at; acts = rw (kind_at, x_at, y_at) e; kept = before_row }

@@ -1,4 +1,3 @@
-pub mod Codes
 pub mod Acts
 pub mod Knowing
 pub mod Learning

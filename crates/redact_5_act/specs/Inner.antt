@@ -1,14 +1,14 @@
 -- What the contracts of private functions cite; no public contract rests on it. Assumes nothing: these are definitions.
-use Rattle.std.specs.Prelude.{◌≡◌, Bool, false, cond, ◌&&◌, List, ℕ, ◌+◌, ◌-◌, ◌*◌, ◌≤◌, ◌<◌, leb, get_or, Some, None}
+use Rattle.std.specs.Prelude.{◌≡◌, Bool, false, cond, ◌&&◌, List, ℕ, ◌+◌, ◌-◌, ◌≤◌, ◌<◌, leb, get_or, Some, None}
 use Rattle.std.specs.Prelude.{Option as Maybe}
 use Rattle.std.proofs.Math.Option.{Option, none, some}
 use Rattle.text.specs.Text.{Text, between}
 use Rattle.er7.specs.declared.separators.Separators.{Separators}
-use Rattle.er7_redact.specs.declared.action.Action.{Action as HeldAction}
 use Rattle.er7_redact.specs.Action.{Action, apply, room}
 use Rattle.message_model.specs.Value.{NULL, is_null, value, is_whole_word}
 use Rattle.run_model.specs.Redact.{Effect, stays, becomes, replaced, longest_found}
-use Rattle.redact_5_act.specs.Known.{value_at, action_at, known_at, known_from}
+use Rattle.redact_5_act.specs.Known.{value_of, known_at, known_from}
+use Rattle.redact_5_act.specs.declared.known.Known.{Known as HeldKnown}
 use Rattle.redact_5_act.specs.declared.state.Counters.{Counters}
 use Rattle.refusal.specs.Limits.{TEXT_MAX}
 
@@ -37,22 +37,14 @@ pub record Fits (o : Option Text) (len : ℕ) (c : Counters) : Type 0 where
 unfoldable pub first_marked : List Bool → Text → Bool
 first_marked starts v = get_or starts (get_or v 0 0) false
 
--- the value of row k has `least` bytes at least and is found in v
-unfoldable pub has_value : Text → Text → List ℕ → ℕ → ℕ → Bool
-has_value v bytes known least k = leb least (get_or known (k * 8 + 2) 0) && is_whole_word (value_at bytes known k) v
+-- the value of the row r has `least` bytes at least and is found in v
+unfoldable pub has_value : Text → Text → ℕ → HeldKnown → Bool
+has_value v bytes least r = leb least r.len && is_whole_word (value_of bytes r) v
 
 -- r is the row of the value that is picked for v of the rows from row i on, if one is
-abbrev pub PickedOr : Text → Text → List ℕ → ℕ → ℕ → Maybe ℕ → Type 0
+abbrev pub PickedOr : Text → Text → List HeldKnown → ℕ → ℕ → Maybe ℕ → Type 0
 PickedOr v bytes known i n None = (text : Text) → longest_found (known_from text bytes known i (n - i)) v ≡ none
 PickedOr v bytes known i n (Some r) = (r < n) × ((text : Text) → longest_found (known_from text bytes known i (n - i)) v ≡ some (known_at text bytes known r))
 
-pub record RowFound (v bytes : Text) (known : List ℕ) (i n : ℕ) (r : Maybe ℕ) : Type 0 where
+pub record RowFound (v bytes : Text) (known : List HeldKnown) (i n : ℕ) (r : Maybe ℕ) : Type 0 where
   pub out : PickedOr v bytes known i n r
-
--- row n of a value with the hash h, of len bytes from index start on, with the action a, was written, which left known'; the rows before it are kept
-pub record RowPut (known : List ℕ) (n h start len : ℕ) (a : HeldAction) (known' : List ℕ) : Type 0 where
-  pub hashed : get_or known' (n * 8) 0 ≡ h
-  pub starts : get_or known' (n * 8 + 1) 0 ≡ start
-  pub lasts : get_or known' (n * 8 + 2) 0 ≡ len
-  pub acts : action_at known' n ≡ a
-  pub kept : (j : ℕ) → j < n * 8 → get_or known' j 0 ≡ get_or known j 0

@@ -3,19 +3,10 @@ use super::groups::Group;
 use super::parts::{
     PAGE, Page, front, number, put, put_byte, put_number, put_refused, put_repeated, sum,
 };
+use er7::message::{Label, Place};
 use er7_message::message::{Layout, parse};
+use er7_table::table::{Leaf, NO_LEAF, NO_SEGMENT, SEGMENT_ROWS, Segment};
 use refusal::limits::LEAVES_MAX;
-
-// Cell k of row i of a table, 0 if it has fewer.
-fn cell(table: &[usize], i: usize, k: usize) -> usize {
-    let at = i.saturating_mul(8).saturating_add(k);
-    table.get(at).copied().unwrap_or(0)
-}
-
-// The byte in a cell.
-fn byte(n: usize) -> u8 {
-    (n % 256) as u8
-}
 
 // Writes the byte b and the number n, and returns the index behind them.
 fn put_step(b: u8, n: usize, out: &mut Page, at: usize) -> usize {
@@ -23,22 +14,20 @@ fn put_step(b: u8, n: usize, out: &mut Page, at: usize) -> usize {
     put_number(n as u64, out, k)
 }
 
-// Writes the name and the occurrence of segment i.
-fn put_label(segs: &[usize], i: usize, out: &mut Page, at: usize) -> usize {
-    let a = put_byte(byte(cell(segs, i, 2)), out, at);
-    let b = put_byte(byte(cell(segs, i, 3)), out, a);
-    let c = put_byte(byte(cell(segs, i, 4)), out, b);
-    let k = put_step(b'[', cell(segs, i, 5), out, c);
+// Writes the name and the occurrence of a segment.
+fn put_label(g: Label, out: &mut Page, at: usize) -> usize {
+    let a = put(&[g.a, g.b, g.c], out, at);
+    let k = put_step(b'[', g.occurrence, out, a);
     put_byte(b']', out, k)
 }
 
-// Writes the place of leaf j.
-fn put_place(cells: &[usize], j: usize, out: &mut Page, at: usize) -> usize {
-    let a = put_step(b'-', cell(cells, j, 4), out, at);
-    let b = put_step(b'[', cell(cells, j, 5), out, a);
+// Writes the place of a leaf.
+fn put_place(p: Place, out: &mut Page, at: usize) -> usize {
+    let a = put_step(b'-', p.field, out, at);
+    let b = put_step(b'[', p.repetition, out, a);
     let c = put_byte(b']', out, b);
-    let k = put_step(b'.', cell(cells, j, 6), out, c);
-    put_step(b'.', cell(cells, j, 7), out, k)
+    let k = put_step(b'.', p.component, out, c);
+    put_step(b'.', p.subcomponent, out, k)
 }
 
 // Writes n bytes of text from index start on, if it has them.
@@ -49,64 +38,53 @@ fn put_part(text: &[u8], start: usize, n: usize, out: &mut Page, at: usize) -> u
     at
 }
 
-// Writes leaf j of segment i: its label, its place and its text.
-fn show_leaf(
-    text: &[u8],
-    segs: &[usize],
-    i: usize,
-    cells: &[usize],
-    j: usize,
-    out: &mut Page,
-    at: usize,
-) -> usize {
-    let a = put_label(segs, i, out, at);
-    let b = put_place(cells, j, out, a);
+// Writes a leaf of the segment g: its label, its place and its text.
+fn show_leaf(text: &[u8], g: Label, leaf: Leaf, out: &mut Page, at: usize) -> usize {
+    let a = put_label(g, out, at);
+    let b = put_place(leaf.place, out, a);
     let c = put_byte(b'=', out, b);
-    let k = put_part(text, cell(cells, j, 1), cell(cells, j, 2), out, c);
+    let k = put_part(text, leaf.start, leaf.len, out, c);
     put_byte(b'\n', out, k)
 }
 
-// Writes the leaves of segment i, from first to before end.
-fn put_leaves(
-    text: &[u8],
-    segs: &[usize],
-    i: usize,
-    cells: &[usize],
-    first: usize,
-    end: usize,
-    out: &mut Page,
-    at: usize,
-) -> usize {
+// Writes the leaves of the segment g.
+fn put_leaves(text: &[u8], g: Label, leaves: &[Leaf], out: &mut Page, at: usize) -> usize {
     let mut k = at;
-    for j in first..end {
-        k = show_leaf(text, segs, i, cells, j, out, k);
+    for leaf in leaves {
+        k = show_leaf(text, g, *leaf, out, k);
     }
     k
 }
 
-// Writes segment i, whose leaves stand before leaf end: its leaves, or its label alone.
+// Writes a segment, whose leaves stand before leaf end: its leaves, or its label alone.
 fn show_segment(
     text: &[u8],
-    segs: &[usize],
-    i: usize,
+    segment: Segment,
     end: usize,
-    cells: &[usize],
+    leaves: &[Leaf],
     out: &mut Page,
     at: usize,
 ) -> usize {
-    let first = cell(segs, i, 1);
-    if first == end {
-        let k = put_label(segs, i, out, at);
+    let g = segment.label;
+    let own = leaves.get(segment.first..end).unwrap_or(&[]);
+    if own.is_empty() {
+        let k = put_label(g, out, at);
         return put_byte(b'\n', out, k);
     }
-    put_leaves(text, segs, i, cells, first, end, out, at)
+    put_leaves(text, g, own, out, at)
 }
 
 // Writes the first n segments.
-fn put_segments(text: &[u8], segs: &[usize], n: usize, cells: &[usize], out: &mut Page) -> usize {
+fn put_segments(
+    text: &[u8],
+    segments: &[Segment; SEGMENT_ROWS],
+    n: usize,
+    leaves: &[Leaf],
+    out: &mut Page,
+) -> usize {
     let mut k = 0;
-    for i in 0..n {
-        k = show_segment(text, segs, i, cell(segs, i + 1, 1), cells, out, k);
+    for (segment, behind) in segments.iter().zip(&segments[1..]).take(n) {
+        k = show_segment(text, *segment, behind.first, leaves, out, k);
     }
     k
 }
@@ -115,13 +93,12 @@ fn put_segments(text: &[u8], segs: &[usize], n: usize, cells: &[usize], out: &mu
 fn put_message(
     group: Group,
     text: &[u8],
-    segs: &[usize; 2056],
+    segments: &[Segment; SEGMENT_ROWS],
     layout: Layout,
-    cells: &[usize],
+    leaves: &[Leaf],
     got: &mut Page,
 ) -> usize {
-    let rows = &segs[..];
-    let k = put_segments(text, rows, layout.segments, cells, got);
+    let k = put_segments(text, segments, layout.segments, leaves, got);
     let n = if layout.last_cr {
         put(b"CR", got, k)
     } else {
@@ -136,10 +113,10 @@ fn put_message(
 
 // Reads a message and lists it, or writes the refusal.
 fn list(group: Group, text: &[u8], got: &mut Page) -> usize {
-    let mut segs = [0usize; 2056];
-    let mut cells = [0usize; LEAVES_MAX * 8];
-    match parse(text, &mut segs, &mut cells) {
-        Ok(layout) => put_message(group, text, &segs, layout, &cells, got),
+    let mut segments = [NO_SEGMENT; SEGMENT_ROWS];
+    let mut leaves = [NO_LEAF; LEAVES_MAX];
+    match parse(text, &mut segments, &mut leaves) {
+        Ok(layout) => put_message(group, text, &segments, layout, &leaves, got),
         Err(why) => put_refused(why, got),
     }
 }

@@ -1,7 +1,6 @@
-use Rattle.er7_table.specs.Table.{cell}
-use Rattle.er7_message.proofs.Names.{has_name}
+use Rattle.std.proofs.Common.{◌∙◌}
+use Rattle.er7_message.proofs.Names.{starts_same}
 use Rattle.er7_message.proofs.message.has_name.Goals as goal
 
 pub returns : goal.returns
-unfolding cell
-returns c = has_name _ _ _ _ _
+returns c = c.starts_with.ensures.value ∙ starts_same _ _

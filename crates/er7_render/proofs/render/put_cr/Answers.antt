@@ -1,4 +1,4 @@
-use native.Mathlib.Omega.{arith}
+use Rattle.std.proofs.Common.{arith}
 use Rattle.er7_render.proofs.Laws.{ending_cr, ending_none, ending_length}
 use Rattle.er7_render.proofs.render.put_cr.Goals as goal
 

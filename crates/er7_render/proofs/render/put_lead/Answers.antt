@@ -1,4 +1,4 @@
-use native.Mathlib.Omega.{arith}
+use Rattle.std.proofs.Common.{arith}
 use Rattle.er7_render.proofs.Laws.{lead_none, lead_length, lead_one}
 use Rattle.er7_render.proofs.render.put_lead.Goals as goal
 

@@ -1,4 +1,4 @@
-use native.Mathlib.Omega.{arith}
+use Rattle.std.proofs.Common.{arith}
 use Rattle.er7_render.proofs.Laws.{joining_start, joining_more, in_tables, render_room, render_end}
 use Rattle.er7_render.proofs.render.render.Goals as goal
 

@@ -1,4 +1,4 @@
-use native.Mathlib.Omega.{arith}
+use Rattle.std.proofs.Common.{arith}
 use Rattle.er7_render.proofs.Slots.{good_more}
 use Rattle.er7_render.proofs.Packing.{pack_back}
 use Rattle.er7_render.proofs.store.compact.Goals as goal

@@ -1,5 +1,4 @@
-use native.Mathlib.Omega.{arith}
-use lib.ListN.{length-take, length-drop}
+use Rattle.std.proofs.Common.{arith, length-take, length-drop}
 use Rattle.er7_render.proofs.Room.{same_part}
 use Rattle.er7_render.proofs.store.compact_behind.Goals as goal
 

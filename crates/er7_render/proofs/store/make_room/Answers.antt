@@ -1,5 +1,4 @@
-use native.Mathlib.Omega.{arith}
-use borrow.Author.Rules.{rules}
+use Rattle.std.proofs.Common.{arith, rules}
 use Rattle.er7_render.proofs.Room.{room_there, room_packed}
 use Rattle.er7_render.proofs.store.make_room.Goals as goal
 

@@ -5,22 +5,6 @@ use Rattle.er7_redact.specs.Policy.{as_rule}
 use Rattle.policy_print.proofs.Parts.{rule_length, rule_wrote}
 use Rattle.policy_print.proofs.display.put_rule.Goals as goal
 
-pub print-w-requires : goal.print-w-requires
-unfolding as_rule
-print-w-requires c = let h = rule_length c.args.n (as_rule c.args.text.now c.args.rule) in (c.requires.0.path, omega (arith, h, c.requires.2))
-
-pub overflow_sub-gap-2 : goal.overflow_sub-gap-2
-unfolding as_rule
-overflow_sub-gap-2 c = omega (arith, c.print-w.ensures.end, c.requires.1)
-
-pub overflow_add-gap : goal.overflow_add-gap
-unfolding as_rule
-overflow_add-gap c = let h = rule_length c.args.n (as_rule c.args.text.now c.args.rule) in omega (arith, h, c.requires.2, c.print-w.ensures.end, c.requires.1)
-
-pub fill_at-k-requires : goal.fill_at-k-requires
-unfolding as_rule
-fill_at-k-requires c = let h = rule_length c.args.n (as_rule c.args.text.now c.args.rule) in omega (arith, h, c.requires.2, c.print-w.ensures.end, c.requires.1, wrote_length c.print-w.ensures)
-
 pub print-e-requires : goal.print-e-requires
 unfolding as_rule
 print-e-requires c = let h = rule_length c.args.n (as_rule c.args.text.now c.args.rule) in (c.requires.0.action, omega (arith, h, c.requires.2, c.print-w.ensures.end, c.requires.1, wrote_length c.print-w.ensures, wrote_length c.fill_at-k.ensures, c.fill_at-k.ensures.end, length-replicate {A = ℕ} (c.args.n - (c.print-w.result - c.args.at) + 2) 0x20))

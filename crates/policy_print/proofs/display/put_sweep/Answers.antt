@@ -2,17 +2,9 @@ use Rattle.text.specs.Text.{bytes}
 use Rattle.policy_print.proofs.Parts.{on_line, off_line}
 use Rattle.policy_print.proofs.display.put_sweep.Goals as goal
 
-pub copy_at-requires : goal.copy_at-requires
-unfolding bytes
-copy_at-requires c = rw (c.if-sweep.true, on_line) at c.requires
-
 pub returns-then-sweep : goal.returns-then-sweep
 unfolding bytes
 returns-then-sweep c = rw (c.if-sweep.true, on_line) c.copy_at.ensures
-
-pub copy_at-requires-2 : goal.copy_at-requires-2
-unfolding bytes
-copy_at-requires-2 c = rw (c.if-sweep.false, off_line) at c.requires
 
 pub returns : goal.returns
 unfolding bytes

@@ -1,7 +1,6 @@
-use Rattle.std.proofs.Common.{◌≡◌, max, ap, ◌∙◌, rules}
+use Rattle.std.proofs.Common.{◌≡◌, max, rules}
 use Rattle.er7_redact.specs.Policy.{as_rule}
-use Rattle.policy_model.specs.Policy.{width}
-use Rattle.policy_print.proofs.Parts.{width_start, width_more, all_rules}
+use Rattle.policy_print.proofs.Parts.{width_start, width_more}
 use Rattle.policy_print.proofs.display.width.Goals as goal
 
 pub loop-rule-init : goal.loop-rule-init
@@ -12,6 +11,3 @@ unfolding as_rule
 loop-rule-preserved c =
     let e : c.max-w.result ≡ max c.loop-rule.w c.printed_len-len.result = search rules in
     rw e (width_more _ _ _ _ _ c.loop-rule.invariant c.loop-rule-test.true c.printed_len-len.ensures)
-
-pub returns : goal.returns
-returns c = c.loop-rule.invariant.is ∙ ap width (all_rules _ _ _ _ c.loop-rule-test.false)

@@ -8,8 +8,8 @@ returns-in_err-p c = refused_is _ _ (appended_first _ _ (refused_as c.in_err-p.e
 pub returns-in_err-q : goal.returns-in_err-q
 returns-in_err-q c = refused_is _ _ (appended_second _ _ (read_as c.in_ok-p.ensures) (refused_as c.in_err-q.ensures)) c.from_residual-in_err-q.ensures.1
 
-pub returns-then-p-q-gt-RULES_MAX : goal.returns-then-p-q-gt-RULES_MAX
-returns-then-p-q-gt-RULES_MAX c =
+pub returns-then-len-gt-RULES_MAX : goal.returns-then-len-gt-RULES_MAX
+returns-then-len-gt-RULES_MAX c =
     rw c.into.ensures (without_line_is _ _ (appended_both _ _ (read_as c.in_ok-p.ensures) (read_as c.in_ok-q.ensures) ∙ many_merged _ _ _ _ c.in_ok-p.ensures.held c.in_ok-q.ensures.held (omega arith)))
 
 pub print_merged-requires : goal.print_merged-requires

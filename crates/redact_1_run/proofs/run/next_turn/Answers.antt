@@ -6,7 +6,7 @@ pub take_turn-requires : goal.take_turn-requires
 take_turn-requires c =
     let l = c.requires.1 in
     let p = c.requires.2 in
-    (record { held = c.requires.0; aim = c.aim_of-aim.ensures; policy = l.policy }, l.named, l.segmented, room_ordered l.segmented c.with_room.ensures p.ordered, room_ahead _ p l.leaves c.with_room.ensures)
+    (record { held = c.requires.0; aim = c.aim_of-aim.ensures; policy = l.policy }, l.segmented, room_ordered l.segmented c.with_room.ensures p.ordered, room_ahead _ p l.leaves c.with_room.ensures)
 
 pub returns : goal.returns
 unfolding pass_by

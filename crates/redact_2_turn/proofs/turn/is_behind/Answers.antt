@@ -1,8 +1,7 @@
-use mathlib.Core.Path.{refl}
-use Rattle.er7_table.specs.Table.{cell}
+use Rattle.std.proofs.Common.{refl}
 use Rattle.redact_2_turn.specs.Ordered.{is_behind}
 use Rattle.redact_2_turn.proofs.turn.is_behind.Goals as goal
 
 pub returns : goal.returns
-unfolding is_behind cell
+unfolding is_behind
 returns c = refl

@@ -1,7 +1,6 @@
-use Rattle.er7_table.specs.Table.{cell}
 use Rattle.redact_2_turn.specs.Turn.{is_touched}
 use Rattle.redact_2_turn.proofs.turn.is_touched.Goals as goal
 
 pub returns : goal.returns
-unfolding is_touched cell
-returns c = rw (c.touchable.ensures, c.place_at.ensures)
+unfolding is_touched
+returns c = rw c.touchable.ensures

@@ -26,9 +26,9 @@ pub loop-i-preserved : goal.loop-i-preserved
 unfolding marked
 loop-i-preserved c = elim c.if-works_on.branch [
   | then-works_on+in_ok-visit w ↦
-      rw (w.named-is, w.cells-is, w.store-is, w.report-is, w.bytes-is, w.known-is, w.counters-is)
+      rw (w.named-is, w.leaves-is, w.store-is, w.report-is, w.bytes-is, w.known-is, w.counters-is)
       (before_visited c.requires.0 _ _ _ c.requires.1 c.loop-i.invariant c.loop-i-test.true w.visit.ensures (ap (after_step _) w.in_ok-visit.was))
   | else-works_on+else-is_behind w ↦
-      rw (w.named-is, w.cells-is, w.store-is, w.report-is, w.bytes-is, w.known-is, w.counters-is)
+      rw (w.named-is, w.leaves-is, w.store-is, w.report-is, w.bytes-is, w.known-is, w.counters-is)
       (before_passed c.requires.0 _ _ _ c.requires.1 c.loop-i.invariant c.loop-i-test.true (sym c.works_on.ensures ∙ w.if-works_on.false))
 ]

@@ -8,7 +8,7 @@ pub loop-i-init : goal.loop-i-init
 loop-i-init c = adding_start c.requires.0
 
 pub leaf_size-sum-requires : goal.leaf_size-sum-requires
-leaf_size-sum-requires c = (omega arith, omega (arith, sum_each c.args.cells.now c.args.first (c.args.end - c.args.first) c.loop-i.i c.loop-i.invariant.low (omega arith), c.requires.2))
+leaf_size-sum-requires c = (omega arith, omega (arith, sum_each c.args.leaves.now c.args.first (c.args.end - c.args.first) c.loop-i.i c.loop-i.invariant.low (omega arith), c.requires.2))
 
 pub overflow_add-sum : goal.overflow_add-sum
 overflow_add-sum c = omega (arith, adding_fits c.loop-i.invariant (omega arith) c.requires.2, c.leaf_size-sum.ensures)

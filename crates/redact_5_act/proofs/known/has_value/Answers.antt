@@ -4,10 +4,10 @@ use native.Mathlib.Omega.{arith}
 use Rattle.redact_5_act.proofs.known.has_value.Goals as goal
 
 pub returns-then-not-may_have : goal.returns-then-not-may_have
-returns-then-not-may_have c = sym (has_unmarked _ _ _ _ _ (sym (not_marked _ c.requires.0 c.requires.3 (sym c.may_have.ensures ∙ c.if-not-may_have.true))))
+returns-then-not-may_have c = sym (has_unmarked _ _ _ _ (sym (not_marked _ c.requires.0 c.requires.3 (sym c.may_have.ensures ∙ c.if-not-may_have.true))))
 
-pub returns-then-known-k : goal.returns-then-known-k
-returns-then-known-k c = sym (has_shorter _ _ _ _ _ c.if-known-k.true)
+pub returns-then-v-least : goal.returns-then-v-least
+returns-then-v-least c = sym (has_shorter _ _ _ _ c.if-v-least.true)
 
 pub returns : goal.returns
-returns c = c.has_word.ensures ∙ has_long _ _ _ _ _ (omega arith)
+returns c = c.has_word.ensures ∙ has_long _ _ _ _ (omega arith)

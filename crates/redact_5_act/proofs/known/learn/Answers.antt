@@ -13,8 +13,11 @@ returns-then-knows c = learns_known _ _ c.requires.0 (λ t. sym (c.knows.ensures
 pub returns-then-n-e : goal.returns-then-n-e
 returns-then-n-e c = learns_full _ _ c.requires.0 c.requires.1 c.hash_of-h.ensures.1 (λ t. sym (c.knows.ensures t) ∙ c.if-knows.false) c.if-n-e.true
 
-pub put_known-requires : goal.put_known-requires
-put_known-requires c = omega (arith, not_many c.args.n c.args.e c.if-n-e.false)
+pub bounds-known-n : goal.bounds-known-n
+bounds-known-n c = omega (arith, not_many c.args.n c.args.e c.if-n-e.false)
+
+pub offset_bounds-known-n : goal.offset_bounds-known-n
+offset_bounds-known-n c = omega (arith, not_many c.args.n c.args.e c.if-n-e.false)
 
 pub returns : goal.returns
-returns c = learns_more _ _ c.requires.0 c.requires.1 c.hash_of-h.ensures.1 (λ t. sym (c.knows.ensures t) ∙ c.if-knows.false) c.if-n-e.false c.hash_of-h.ensures.0 c.put_known.ensures
+returns c = learns_more _ _ c.requires.0 c.requires.1 c.hash_of-h.ensures.1 (λ t. sym (c.knows.ensures t) ∙ c.if-knows.false) c.if-n-e.false c.hash_of-h.ensures.0 (omega (arith, not_many c.args.n c.args.e c.if-n-e.false))

@@ -2,4 +2,4 @@ use Rattle.policy.proofs.Reading.{starts}
 use Rattle.policy.proofs.policy.Policy.start.Goals as goal
 
 pub returns : goal.returns
-returns c = starts _
+returns c = rw c.none.ensures starts
