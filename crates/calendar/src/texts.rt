@@ -95,7 +95,6 @@ fn is_dated(s: &[u8]) -> bool
 }
 
 // The day of the date of a value.
-
 fn day_of(s: &[u8]) -> i64
     requires { is_dated s.now ≡ true }
     ensures { result ≡ pos (day_number (front s.now)) }

@@ -189,7 +189,7 @@ fn read_rest(
     let mut i = from;
     let mut k = 1;
     let mut n = n0;
-    // no `for`: a range of segments ends where one too many is refused, so that a refusal behind it would never come
+    // no `for`: how many lines there are, and where the next one starts, is known only when the one before it is read
     'lines: loop {
         let e = line_end(text, i);
         if !is_named(s, &text[i..e]) {

@@ -41,7 +41,7 @@ pub enum Verb {
     Unknown,
 }
 
-// The action a as a number, each by its own: a form that three wrong programs alter (kind_of_clear, kind_of_last, kind_shared).
+// The action a as a number, each by its own.
 pub fn kind(a: Action) -> u8
     ensures { (t : Text) → result ≡ Spec.kind (as_action t a) }
 {

@@ -12,8 +12,7 @@ pub const OFFSET: u64 = 0xcbf2_9ce4_8422_2325;
 
 pub const PRIME: u64 = 0x0000_0100_0000_01b3;
 
-// The low 64 bits of the product: the low halves' product, and the middle products' sum, shifted by half a word. The form is the project's:
-// a helper built from parts.
+// The low 64 bits of the product, from the products of halves: that of the low ones, and the sum of the middle ones, shifted by half a word.
 pub fn wrapping_mul(a: u64, b: u64) -> u64
     ensures { result ≡ (a * b) % 2 ^ 64 }
 {

@@ -150,8 +150,8 @@ pub fn for_sweep(
     found(bytes, used, end, known, n)
 }
 
-// Learns the value that stands in bytes from index used to index e, of three bytes at least, with the action a, behind n values of `used` bytes, unless it is
-// known. Returns how many values are known then, and how many bytes they take; or a refusal, if that is too much.
+// Learns the value that stands in bytes from index used to index e, of three bytes at least, with the action a, behind n values of `used` bytes,
+// unless it is known. Returns how many values are known then, and how many bytes they take; or a refusal, if that is too much.
 fn learn(
     a: Action,
     e: usize,

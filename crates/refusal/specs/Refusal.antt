@@ -26,7 +26,7 @@ number Withheld = 13
 number NoSuchBuiltin = 14
 number BadDayCount = 15
 
--- "Its line, from 1, is given for a policy's 6 to 9, else 0": a refusal for which no line is at fault
+-- "Its line, from 1, is given for a policy's 6 to 9, else 0", and for its 15: a refusal for which no line is at fault
 unfoldable pub without_line : Refusal → Refused
 without_line e = record { refusal = e; line = 0 }
 
