@@ -1,5 +1,7 @@
 -- Laws of the turns of a run, one behind the other. Assumes nothing.
-use Rattle.std.proofs.Common.{le_refl, ◌≡◌, refl, sym, ◌∙◌, Bool, true, false, cond, List, [], ◌∷◌, ◌++◌, ℕ, ◌+◌, ◌≤◌, ◌<◌, eqb, eqb-true, length, get_or, arith, Result, Ok, Err}
+use Rattle.std.proofs.Common.{le_refl, ◌≡◌, refl, sym, ◌∙◌, Bool, true, false, cond, List, [], ◌∷◌, ◌++◌, ℕ, ◌+◌, ◌≤◌, ◌<◌, eqb, eqb-true, length, get_or, arith, ◌≢◌, Result, Ok, Err}
+use Rattle.std.specs.Prelude.{⊤}
+use Rattle.std.specs.Result.{result_and}
 use Rattle.std.proofs.Math.Option.{Option, none}
 use Rattle.text.specs.Text.{Text}
 use Rattle.refusal.specs.declared.Refusal.{Refusal}
@@ -18,6 +20,7 @@ use Rattle.er7_table.specs.declared.table.Segment.{Segment as HeldSegment}
 use Rattle.run_model.specs.Redact.{Progress, stopped, after_events, over_segments, segments_events, longest_found, action_in, for_sweep}
 use Rattle.run_model.proofs.Chains.{cond_both}
 use Rattle.redact_5_act.specs.Known.{known_from}
+use Rattle.redact_5_act.specs.State.{after_step}
 use Rattle.redact_5_act.specs.declared.state.Setting.{Setting}
 use Rattle.redact_5_act.specs.declared.state.Counters.{Counters}
 use Rattle.redact_4_leaf.specs.Walk.{Pass}
@@ -110,6 +113,13 @@ module _ (text : Text) (policy : HeldPolicy) where
   pub sweep_for : {turn : Turn} {c : Counters} → turn ≡ turn_of_sweep c.known → TurnFor swept c turn
   sweep_for {c = c} e = record { held = rw e (sweep_held text c.known); alike = λ key s β ss. unfold pass_for in sweep_alike key s text β c ss e }
 
+-- ---- a run that is refused stays so, whatever tasks are left
+
+stopped_tasks : (key : ℕ) (s : Separators) (P : Policy) (us : List Task) (ss : List Segment) {b : Progress} {e : Refusal} → b ≡ stopped e → progress_tasks key s P us ss b ≡ stopped e
+unfolding progress_tasks progress_by
+stopped_tasks key s P [] ss f = f
+stopped_tasks key s P (t ∷ us) ss {b} {e} f = stopped_tasks key s P us _ (rw f (stopped_stays P.sweep _ e))
+
 -- ---- some turns are taken
 
 module _ (text : Text) (segs : List HeldSegment) (on : Setting) (policy : HeldPolicy) (β₀ : Buffers) (c₀ : Counters) where
@@ -125,8 +135,8 @@ module _ (text : Text) (segs : List HeldSegment) (on : Setting) (policy : HeldPo
   unfolding as_rules after_tasks progress_tasks
   none_taken = record { to = λ x cr ss b g. record { out = g } }
 
-  taken_ready : {k : ℕ} {ts : List Task} {β : Buffers} {c : Counters} → Inputs text segs on → k ≤ 130 → Begun text segs on β₀ c₀ → Taken k ts β (Ok c) → TurnReady text segs on β c
-  taken_ready l h g w = stage_turn_ready l.segmented h (w.to g.x g.cr g.ss g.progress g.stage).out
+  taken_ready : {k : ℕ} {ts : List Task} {β : Buffers} {c : Counters} → Inputs text segs on → k ≤ 130 → Begun text segs on β₀ (Ok c₀) → Taken k ts β (Ok c) → TurnReady text segs on β c
+  taken_ready l h g w = stage_turn_ready l.segmented h (w.to g.x g.cr g.ss g.progress g.stands.out).out
 
   module _ (q : on.sweep ≡ policy.sweep) (l : Inputs text segs on) where
     same_progress : {Q W : Pass} {ss : List Segment} (b : Progress) → Alike Q W ss → after_events on.sweep (segments_events Q.says ss) b ≡ progress_by P W ss b
@@ -150,15 +160,9 @@ module _ (text : Text) (segs : List HeldSegment) (on : Setting) (policy : HeldPo
             (rw (same_segments a, same_progress b' a) at (stands_next g (λ ks. pass_of on.key on.separators text ks turn) (turn_sound on.key on.separators cr text (knowing text β c) turn) l.leaves r n));
       }
 
-  -- a run that is refused stays so, whatever tasks are left
-  stopped_tasks : (us : List Task) (ss : List Segment) {b : Progress} {e : Refusal} → b ≡ stopped e → progress_tasks on.key on.separators P us ss b ≡ stopped e
-  unfolding progress_tasks progress_by
-  stopped_tasks [] ss f = f
-  stopped_tasks (t ∷ us) ss {b} {e} f = stopped_tasks us _ (rw f (stopped_stays P.sweep _ e))
-
   taken_stops : {k : ℕ} {ts : List Task} (us : List Task) {β : Buffers} {e : Refusal} → Taken k ts β (Err e) → (x : ℕ) (cr : Bool) (ss : List Segment) (b : Progress) → Stage x cr text segs on 0 ss b β₀ c₀
       → Stands x cr text segs on 130 (after_tasks on.key on.separators P (ts ++ us) ss b) (progress_tasks on.key on.separators P (ts ++ us) ss b) β (Err e)
-  taken_stops {ts = ts} us w x cr ss b g = record { out = tasks_progress on.key on.separators P ts us ss b ∙ stopped_tasks us _ (w.to x cr ss b g).out }
+  taken_stops {ts = ts} us w x cr ss b g = record { out = tasks_progress on.key on.separators P ts us ss b ∙ stopped_tasks on.key on.separators P us _ (w.to x cr ss b g).out }
 
   taken_all : {k : ℕ} {ts : List Task} {β : Buffers} (r : Result Counters Refusal) → k ≤ 130 → Taken k ts β r → (x : ℕ) (cr : Bool) (ss : List Segment) (b : Progress) → Stage x cr text segs on 0 ss b β₀ c₀
       → Stands x cr text segs on 130 (after_tasks on.key on.separators P ts ss b) (progress_tasks on.key on.separators P ts ss b) β r
@@ -186,7 +190,7 @@ module _ (text : Text) (segs : List HeldSegment) (on : Setting) (policy : HeldPo
       turn_for : TurnFor text policy (ruled (as_rule text (get_or policy.rules k z))) c turn
       turn_for = let a = p.rules.each k z low in rule_for text policy a.path a.action (rw e at t)
 
-      pub rule_asks : Begun text segs on β₀ c₀ → TurnHeld text turn × Inputs text segs on × TurnReady text segs on β c
+      pub rule_asks : Begun text segs on β₀ (Ok c₀) → TurnHeld text turn × Inputs text segs on × TurnReady text segs on β c
       rule_asks g = (turn_for.held, l, taken_ready text segs on policy β₀ c₀ l (omega (arith, low, p.few)) g w)
 
       module _ {β' : Buffers} {r : Result Counters Refusal} (n : Next β c turn β' r) where
@@ -204,7 +208,7 @@ module _ (text : Text) (segs : List HeldSegment) (on : Setting) (policy : HeldPo
       all_taken : Taken text segs on policy β₀ c₀ (length policy.rules) (all_rules text policy) β (Ok c)
       all_taken = rw (all, rules_ended text policy (le_refl (length policy.rules))) at w
 
-      pub posture_asks : Begun text segs on β₀ c₀ → TurnHeld text turn × Inputs text segs on × TurnReady text segs on β c
+      pub posture_asks : Begun text segs on β₀ (Ok c₀) → TurnHeld text turn × Inputs text segs on × TurnReady text segs on β c
       posture_asks g = (t.held text p.posture, l, taken_ready text segs on policy β₀ c₀ l (omega (arith, p.few)) g all_taken)
 
       module _ {β' : Buffers} {r : Result Counters Refusal} (n : Next β c turn β' r) where
@@ -219,10 +223,29 @@ module _ (text : Text) (segs : List HeldSegment) (on : Setting) (policy : HeldPo
 
   -- the sweep's is next
   module _ {β : Buffers} {c : Counters} (w : Taken text segs on policy β₀ c₀ (length policy.rules + 1) (all_rules text policy ++ (judged ∷ [])) β (Ok c)) {turn : Turn} (t : turn ≡ turn_of_sweep c.known) where
-    pub sweep_asks : Begun text segs on β₀ c₀ → TurnHeld text turn × Inputs text segs on × TurnReady text segs on β c
+    pub sweep_asks : Begun text segs on β₀ (Ok c₀) → TurnHeld text turn × Inputs text segs on × TurnReady text segs on β c
     sweep_asks g = ((sweep_for text policy {c = c} t).held, l, taken_ready text segs on policy β₀ c₀ l (omega (arith, p.few)) g w)
 
     pub sweep_ends : {β' : Buffers} (r : Result Counters Refusal) → Next β c turn β' r → Ended β' r
     sweep_ends r n =
         rw (posture_left text policy)
         (taken_all text segs on policy β₀ c₀ r (omega (arith, p.few)) (taken_more text segs on policy β₀ c₀ q l (all_rules text policy ++ (judged ∷ [])) w swept turn (sweep_for text policy t) r n))
+
+-- ---- a run, whether it was refused before or not
+
+module _ (text : Text) (segs : List HeldSegment) (on : Setting) (P : Policy) where
+  -- all is taken by the run r₀, which is r behind it
+  abbrev pub Run : Buffers → Result Counters Refusal → Buffers → Result Counters Refusal → Type 0
+  Run β₀ r₀ β r = (x : ℕ) (cr : Bool) (ss : List Segment) (b : Progress) → Stands x cr text segs on 0 ss b β₀ r₀
+      → Stands x cr text segs on 130 (after_tasks on.key on.separators P (tasks_of P) ss b) (progress_tasks on.key on.separators P (tasks_of P) ss b) β r
+
+  pub run_goes : {β₀ β : Buffers} {r₀ : Result Counters Refusal} {c : Counters} (c' : Counters) (made : Result ⊤ Refusal) → r₀ ≡ Ok c
+      → ((x : ℕ) (cr : Bool) (ss : List Segment) (b : Progress) → Stage x cr text segs on 0 ss b β₀ c
+      → Stands x cr text segs on 130 (after_tasks on.key on.separators P (tasks_of P) ss b) (progress_tasks on.key on.separators P (tasks_of P) ss b) β (after_step c' made))
+      → Run β₀ r₀ β (result_and made (Ok c'))
+  run_goes c' (Ok u) e f = λ x cr ss b g. f x cr ss b (rw e at g).out
+  run_goes c' (Err x) e f = λ x cr ss b g. f x cr ss b (rw e at g).out
+
+  pub run_stays : {β : Buffers} (r₀ : Result Counters Refusal) → ((c : Counters) → r₀ ≢ Ok c) → Run β r₀ β r₀
+  run_stays (Ok c) n = absurd (n c refl)
+  run_stays (Err e) n = λ x cr ss b g. record { out = stopped_tasks on.key on.separators P (tasks_of P) ss g.out }

@@ -120,13 +120,13 @@ module _ (key : ℕ) (sweep : Bool) {message : Text} {m : Message} {policy : Tex
 
 module _ {message policy : Text} {size : ℕ} {layout : Layout} {segs : List HeldSegment} {held : List HeldLeaf} (w : AnyLoaded message policy size layout segs held) where
   pub run_begun : (key : ℕ) (sweep : Bool) {store store' : Text} {used : ℕ} → Wrote store 0 message store' used → (report bytes : Text) (known : List HeldKnown)
-      → Begun policy segs (setting_of key sweep layout) (buffers (replicate LEAVES_MAX false) held store' report bytes known) (started size used)
+      → Begun policy segs (setting_of key sweep layout) (buffers (replicate LEAVES_MAX false) held store' report bytes known) (Ok (started size used))
   run_begun key sweep p report bytes known = record {
     x = size - length message;
     cr = w.message.last_cr;
     ss = w.message.segments;
     progress = running [] [] size;
-    stage = first_stage key sweep w.loaded p report bytes known;
+    stands = record { out = first_stage key sweep w.loaded p report bytes known };
   }
 
   pub run_lent : (key : ℕ) (sweep : Bool) → Inputs policy segs (setting_of key sweep layout)
@@ -157,7 +157,7 @@ module _ (key : ℕ) (sweep : Bool) {x : ℕ} {cr : Bool} {text : Text} {layout 
 -- what is left by all turns, f, from the first buffers
 module _ (key : ℕ) (sweep : Bool) (P : Policy) {message : Text} {m : Message} {policy : Text} {size : ℕ} {layout : Layout} {segs : List HeldSegment} {held₀ : List HeldLeaf} (w : Loaded message m policy size layout segs held₀)
     {store₀ store₁ : Text} {used : ℕ} (p : Wrote store₀ 0 message store₁ used) (report₁ bytes₁ : Text) (known₁ : List HeldKnown) (named : List Bool) (held : List HeldLeaf) (store report bytes : Text) (known : List HeldKnown) (r : Result Counters Refusal)
-    (f : (x : ℕ) (cr : Bool) (ss : List Segment) (b : Progress) → Stage x cr policy segs (setting_of key sweep layout) 0 ss b (buffers (replicate LEAVES_MAX false) held₀ store₁ report₁ bytes₁ known₁) (started size used)
+    (f : (x : ℕ) (cr : Bool) (ss : List Segment) (b : Progress) → Stands x cr policy segs (setting_of key sweep layout) 0 ss b (buffers (replicate LEAVES_MAX false) held₀ store₁ report₁ bytes₁ known₁) (Ok (started size used))
     → Stands x cr policy segs (setting_of key sweep layout) 130 (after_tasks key layout.separators P (tasks_of P) ss b) (progress_tasks key layout.separators P (tasks_of P) ss b) (buffers named held store report bytes known) r) where
   abbrev ss' : List Segment
   ss' = after_tasks key layout.separators P (tasks_of P) m.segments (running [] [] size)
@@ -166,7 +166,7 @@ module _ (key : ℕ) (sweep : Bool) (P : Policy) {message : Text} {m : Message} 
   b' = progress_tasks key layout.separators P (tasks_of P) m.segments (running [] [] size)
 
   last_stands : Stands (size - length message) m.last_cr policy segs (setting_of key sweep layout) 130 ss' b' (buffers named held store report bytes known) r
-  last_stands = f (size - length message) m.last_cr m.segments (running [] [] size) (first_stage key sweep w p report₁ bytes₁ known₁)
+  last_stands = f (size - length message) m.last_cr m.segments (running [] [] size) (record { out = first_stage key sweep w p report₁ bytes₁ known₁ })
 
   run_is : redact_from size key P m ≡ redacted_as layout.separators m.last_cr b' ss'
   run_is = rw w.standing.separators (tasks_redact key size P m)

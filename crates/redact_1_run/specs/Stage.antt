@@ -42,12 +42,12 @@ pub record Stands (x : ℕ) (cr : Bool) (text : Text) (segs : List HeldSegment) 
   pub out : StageOr x cr text segs on turns ss b β r
 
 -- some segments and some progress stand there, before the first turn
-pub record Begun (text : Text) (segs : List HeldSegment) (on : Setting) (β : Buffers) (c : Counters) : Type 0 where
+pub record Begun (text : Text) (segs : List HeldSegment) (on : Setting) (β : Buffers) (r : Result Counters Refusal) : Type 0 where
   pub x : ℕ
   pub cr : Bool
   pub ss : List Segment
   pub progress : Progress
-  pub stage : Stage x cr text segs on 0 ss progress β c
+  pub stands : Stands x cr text segs on 0 ss progress β r
 
 -- what a run asks of its other buffers
 pub record Inputs (text : Text) (segs : List HeldSegment) (on : Setting) : Type 0 where

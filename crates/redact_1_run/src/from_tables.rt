@@ -7,7 +7,7 @@ ghost use Rattle.run_model.specs.Redact as R;
 ghost use Rattle.run_model.specs.Redact.{redact_from};
 ghost use Rattle.redact_1_run.specs.Ran.{Loaded, AnyLoaded, Printable, Ran, RedactedIs};
 
-use super::run::run_turns;
+use super::run::{Run, run_turns};
 use er7_message::message::Layout;
 use er7_render::render::render;
 use er7_table::table::{Leaf, SEGMENT_ROWS, Segment};
@@ -17,13 +17,6 @@ use redact_5_act::state::{Counters, Setting};
 use refusal::Refusal;
 use refusal::limits::{LEARNT_MAX, LEAVES_MAX};
 use text::bytes::copy_at;
-
-// The state of a run: which leaves are named, and how far it has come.
-#[derive(Clone, Copy)]
-struct Run {
-    named: [bool; LEAVES_MAX],
-    counters: Counters,
-}
 
 // The lengths of the text and of the report, and how many rows it has.
 #[derive(Clone, Copy)]
@@ -86,28 +79,19 @@ pub fn redact_from(
     };
     let mut run = Run {
         named: [false; LEAVES_MAX],
-        counters: Counters {
+        done: Ok(Counters {
             rows: 0,
             report_len: 0,
             size,
             used,
             known: 0,
             known_used: 0,
-        },
+        }),
     };
     run_turns(
-        on,
-        policy,
-        text,
-        segments,
-        &mut run.named,
-        leaves,
-        &mut store,
-        report,
-        &mut bytes,
-        &mut known,
-        &mut run.counters,
-    )?;
-    let len = (run.counters.size + used).saturating_sub(size);
-    Ok(print_text(layout, segments, leaves, &store, len, run.counters, output))
+        &mut run, on, policy, text, segments, leaves, &mut store, report, &mut bytes, &mut known,
+    );
+    let counters = run.done?;
+    let len = (counters.size + used).saturating_sub(size);
+    Ok(print_text(layout, segments, leaves, &store, len, counters, output))
 }

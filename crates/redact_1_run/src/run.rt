@@ -1,5 +1,5 @@
 // The turns of a run: "Rules in policy order, each over segments in order; then a rejecting posture over unnamed leaves; then the sweep".
-ghost use Rattle.std.specs.Prelude.{◌≡◌, Bool, List, ℕ};
+ghost use Rattle.std.specs.Prelude.{◌≡◌, Bool, List, ℕ, Ok};
 ghost use Rattle.message_model.specs.Message as Message;
 ghost use Rattle.run_model.specs.Redact.{Progress};
 ghost use Rattle.policy.specs.Policy.{as_policy, PolicyHeld};
@@ -20,6 +20,13 @@ use redact_5_act::state::{Counters, Setting};
 use redact_6_row::reach::{Reach, reach_of};
 use refusal::Refusal;
 use refusal::limits::{LEARNT_MAX, LEAVES_MAX};
+
+// Which leaves are named, and how far the run has come.
+#[derive(Clone, Copy)]
+pub struct Run {
+    pub named: [bool; LEAVES_MAX],
+    pub done: Result<Counters, Refusal>,
+}
 
 // The turn of a rule.
 fn rule_turn(rule: Rule) -> Turn
@@ -94,7 +101,7 @@ fn next_turn(
 }
 
 // All turns of a policy.
-pub(crate) fn run_turns(
+fn all_turns(
     on: Setting,
     policy: &Policy,
     text: &[u8],
@@ -107,7 +114,7 @@ pub(crate) fn run_turns(
     known: &mut [Known; LEARNT_MAX],
     counters: &mut Counters,
 ) -> Result<(), Refusal>
-    requires { PolicyHeld text.now policy.now × (on.sweep ≡ policy.now.sweep) × Inputs text.now segments.now on × Begun text.now segments.now on (buffers named.old leaves.old store.old report.old bytes.old known.old) counters.old }
+    requires { PolicyHeld text.now policy.now × (on.sweep ≡ policy.now.sweep) × Inputs text.now segments.now on × Begun text.now segments.now on (buffers named.old leaves.old store.old report.old bytes.old known.old) (Ok counters.old) }
     ensures { (x : ℕ) (cr : Bool) (ss : List Message.Segment) (b : Progress) → Stage x cr text.now segments.now on 0 ss b (buffers named.old leaves.old store.old report.old bytes.old known.old) counters.old → Stands x cr text.now segments.now on 130 (after_tasks on.key on.separators (as_policy text.now policy.now) (tasks_of (as_policy text.now policy.now)) ss b) (progress_tasks on.key on.separators (as_policy text.now policy.now) (tasks_of (as_policy text.now policy.now)) ss b) (buffers named.new leaves.new store.new report.new bytes.new known.new) (after_step counters.new result) }
 {
     let rules = policy.rules.as_slice();
@@ -125,4 +132,39 @@ pub(crate) fn run_turns(
     next_turn(
         on, sweeping, text, segments, named, leaves, store, report, bytes, known, counters,
     )
+}
+
+// All turns of a policy, unless the run was refused: then it stays so.
+pub fn run_turns(
+    run: &mut Run,
+    on: Setting,
+    policy: &Policy,
+    text: &[u8],
+    segments: &[Segment; SEGMENT_ROWS],
+    leaves: &mut [Leaf],
+    store: &mut [u8; 98304],
+    report: &mut [u8],
+    bytes: &mut [u8; 65536],
+    known: &mut [Known; LEARNT_MAX],
+)
+    requires { PolicyHeld text.now policy.now × (on.sweep ≡ policy.now.sweep) × Inputs text.now segments.now on × Begun text.now segments.now on (buffers run.old.named leaves.old store.old report.old bytes.old known.old) run.old.done }
+    ensures { (x : ℕ) (cr : Bool) (ss : List Message.Segment) (b : Progress) → Stands x cr text.now segments.now on 0 ss b (buffers run.old.named leaves.old store.old report.old bytes.old known.old) run.old.done → Stands x cr text.now segments.now on 130 (after_tasks on.key on.separators (as_policy text.now policy.now) (tasks_of (as_policy text.now policy.now)) ss b) (progress_tasks on.key on.separators (as_policy text.now policy.now) (tasks_of (as_policy text.now policy.now)) ss b) (buffers run.new.named leaves.new store.new report.new bytes.new known.new) run.new.done }
+{
+    let Ok(mut counters) = run.done else {
+        return;
+    };
+    let made = all_turns(
+        on,
+        policy,
+        text,
+        segments,
+        &mut run.named,
+        leaves,
+        store,
+        report,
+        bytes,
+        known,
+        &mut counters,
+    );
+    run.done = made.and(Ok(counters));
 }
