@@ -1,10 +1,10 @@
 -- Laws of FNV-1a. Assumes nothing.
-use Rattle.std.proofs.Common.{◌≡◌, ℕ, [], ◌∷◌, ◌++◌, refl, w64, sym, ◌∙◌}
-use Rattle.std.proofs.Math.Nat.{div-div-eq-div-mul}
-use Rattle.std.specs.Int.{to_be_bytes}
+use Rattle.std.proofs.Common.{◌≡◌, ℕ, [], ◌∷◌, ◌++◌, length, refl, sym, ◌∙◌}
 use Rattle.std.specs.List as Lists
-use Rattle.text.specs.Text.{Text}
-use Rattle.text.specs.Number.{eight_bytes, positional}
+use Rattle.text.specs.Text.{Text, Wrote}
+use Rattle.text.specs.Number.{eight_bytes}
+use Rattle.text.proofs.Spelling.{eight_bytes_length}
+use Rattle.text.proofs.Writes.{put_whole}
 use Rattle.pseudonym.specs.Pseudonym.{OFFSET, step, fold}
 
 -- the bytes of one text, and then those of another
@@ -19,11 +19,8 @@ unfolding fold
 fold_lem h [] = refl
 fold_lem h (b ∷ s) = fold_lem (step h b) s
 
--- a number's bytes by their places
-eight_bytes_lem : (n : ℕ) → to_be_bytes w64 n ≡ eight_bytes n
-unfolding eight_bytes positional
-eight_bytes_lem n = simp div-div-eq-div-mul
-
--- the key's bytes, and the value's behind them
-pub key_then_value : (key : ℕ) (value b : Text) (g h : ℕ) → b ≡ to_be_bytes w64 key → g ≡ fold OFFSET b → h ≡ fold g value → h ≡ fold OFFSET (eight_bytes key ++ value)
-key_then_value key value b g h w e f = f ∙ rw (e, w, eight_bytes_lem key) (sym (fold_append OFFSET (eight_bytes key) value))
+-- the key's bytes stand in a buffer of eight, and the value's follow
+pub key_then_value : (key : ℕ) (value d b : Text) (g h r : ℕ) → length d ≡ 8 → Wrote d 0 (eight_bytes key) b r → g ≡ fold OFFSET b → h ≡ fold g value
+    → h ≡ fold OFFSET (eight_bytes key ++ value)
+key_then_value key value d b g h r l w e f =
+    f ∙ rw (e, w.text, put_whole d (eight_bytes key) (eight_bytes_length key ∙ sym l)) (sym (fold_append OFFSET (eight_bytes key) value))

@@ -5,7 +5,7 @@ ghost use Rattle.std.specs.Prelude.{◌≡◌, ◌+◌, ◌*◌, ◌%◌, ◌^�
 ghost use Rattle.text.specs.Text.{Wrote};
 ghost use Rattle.pseudonym.specs.Pseudonym as P;
 
-use text::positional::hexadecimal_at;
+use text::positional::{eight_bytes_at, hexadecimal_at};
 
 // The hash of no bytes, and the number that every step multiplies by.
 pub const OFFSET: u64 = 0xcbf2_9ce4_8422_2325;
@@ -44,7 +44,9 @@ pub fn pseudonym(key: u64, value: &[u8], out: &mut [u8], at: usize) -> usize
     requires { at + 16 ≤ length out.old }
     ensures { Wrote out.old at (P.pseudonym key value.now) out.new result }
 {
-    let keyed = fold(OFFSET, &key.to_be_bytes());
+    let mut bytes = [0u8; 8];
+    eight_bytes_at(&mut bytes, 0, key);
+    let keyed = fold(OFFSET, &bytes);
     let hash = fold(keyed, value);
     hexadecimal_at(out, at, hash)
 }

@@ -6,16 +6,16 @@ use Prim.Native.Nat.{ℕ, zero, suc, ◌+◌, ◌*◌, ◌-◌, ◌/◌, ◌%◌
 use native.Mathlib.Omega.{arith}
 use borrow.Author.Tests.{lt-ltb, le-ltb, le-leb, ltb-true, not-true}
 use lib.Dec.{ltb}
-use lib.ListN.{length, drop, get_or, set, length-append, length-take, length-drop}
+use lib.ListN.{length, drop, get_or, set, length-append, length-drop}
 use Rattle.text.specs.declared.bytes.Class.TheVariants.{Digit}
-use Rattle.std.proofs.Common.{Option, Some, None, drop_of_length-le, take, cond, ap}
-use Rattle.std.proofs.lemmas.Option.{cond_some, none-some}
-use Rattle.text.proofs.Runs.{drop_step}
-use Rattle.text.specs.Text.{Text, is_digit, is_in, is_empty, run, rest, part, RunEnd, Wrote, all}
+use Rattle.std.proofs.Common.{Option, Some, None, option_map, take, cond, ap}
+use Rattle.std.proofs.lemmas.Option.{none-some, some_pair_parts}
+use Rattle.std.proofs.lemmas.List.{drop-drop}
+use Rattle.text.specs.Text.{Text, is_digit, is_in, is_empty, run, rest, Wrote, all}
 use Rattle.text.specs.Number.{digits, decimal, worth, Taken, taken, refused, take_number, as_taken, TakenAt}
-use Rattle.text.specs.Inner.{in_64_bits}
-use Rattle.text.proofs.Laws.{split, at_least, at_most, and_left, and_right, and_true, by_cond, clash}
-use Rattle.text.proofs.Runs.{stop, run_all, rest_all, all_append, all_run, run_rest_length}
+use Rattle.text.specs.Inner.{in_64_bits, leading}
+use Rattle.text.proofs.Laws.{split, at_least, at_most, and_left, and_right, and_true, and_false, by_cond, clash}
+use Rattle.text.proofs.Runs.{run_yes, run_no, run_none, stop, run_all, rest_all, all_append, all_run, run_rest_length, drop_run, drop_slice}
 use Rattle.text.proofs.Writes.{wrote_byte, wrote_length, wrote_then}
 
 -- ---- printing
@@ -75,39 +75,52 @@ unfolding worth
 worth_grows n [] = omega arith
 worth_grows n (x ∷ t) = omega (arith, worth_grows (n * 10 + (x - 48)) t)
 
--- ---- digits that have been read up to index j are worth n so far
+-- ---- the digits at the front that have been read up to index j are worth n so far
 
 pub record Reading (s : Text) (j n : ℕ) : Type 0 where
   pub small : n < 2 ^ 64
-  pub worth_is : worth 0 s ≡ worth n (drop j s)
+  pub worth_is : worth 0 (run is_digit s) ≡ worth n (run is_digit (drop j s))
+  pub many : length (run is_digit s) ≡ j + length (run is_digit (drop j s))
 
 pub reading_start : (s : Text) → Reading s 0 0
-reading_start s = record { small = omega arith; worth_is = refl }
+reading_start s = record { small = omega arith; worth_is = refl; many = omega arith }
 
-module _ {s : Text} {j n : ℕ} (g : Reading s j n) (h : j < length s) where
-  next : worth 0 s ≡ worth (n * 10 + (get_or s j 0 - 48)) (drop (j + 1) s)
-  unfolding worth
-  next = g.worth_is ∙ rw (drop_step s j h)
+module _ {s : Text} {j n : ℕ} (g : Reading s j n) where
+  read : run is_digit (drop j s) ≡ [] → Some (n, j) ≡ leading s
+  unfolding leading in_64_bits worth
+  read e =
+      let w : worth 0 (run is_digit s) ≡ n = g.worth_is ∙ rw e in
+      let l : length (run is_digit s) ≡ j = omega (arith, g.many, ap length e) in
+      rw (w, l, lt-ltb n (2 ^ 64) g.small)
 
-  pub reading_more : n * 10 + (get_or s j 0 - 48) < 2 ^ 64 → Reading s (j + 1) (n * 10 + (get_or s j 0 - 48))
-  reading_more f = record { small = f; worth_is = next }
+  pub reading_stop : j < length s → is_digit (get_or s j 0) ≡ false → Some (n, j) ≡ leading s
+  reading_stop h e = read (run_no is_digit s j h e)
 
-  pub reading_over : 2 ^ 64 ≤ n * 10 + (get_or s j 0 - 48) → in_64_bits (worth 0 s) ≡ None
-  unfolding in_64_bits
-  reading_over f =
-      let k = worth_grows (n * 10 + (get_or s j 0 - 48)) (drop (j + 1) s) in
-      rw (le-ltb (worth 0 s) (2 ^ 64) (rw next (omega arith)))
+  pub reading_end : j ≡ length s → Some (n, length s) ≡ leading s
+  reading_end h = subst (λ k. Some (n, k) ≡ leading s) h (read (run_none is_digit s j (omega (arith, h))))
 
-pub reading_end : {s : Text} {j n : ℕ} → Reading s j n → length s ≤ j → in_64_bits (worth 0 s) ≡ Some n
-unfolding in_64_bits worth
-reading_end {s} {j} {n} g h = let e : worth 0 s ≡ n = g.worth_is ∙ rw (drop_of_length-le s h) in rw (e, lt-ltb n (2 ^ 64) g.small)
+  module _ (h : j < length s) (d : is_digit (get_or s j 0) ≡ true) where
+    next : worth 0 (run is_digit s) ≡ worth (n * 10 + (get_or s j 0 - 48)) (run is_digit (drop (j + 1) s))
+    unfolding worth
+    next = g.worth_is ∙ rw (run_yes is_digit s j h d)
 
--- the byte at index j of digits is a digit
-pub digit_at : (s : Text) (j : ℕ) → j < length s → all is_digit s ≡ true → is_digit (get_or s j 0) ≡ true
-unfolding all
-digit_at [] j h e = absurd (omega arith)
-digit_at (x ∷ s) zero h e = and_left (is_digit x) (all is_digit s) e
-digit_at (x ∷ s) (suc j) h e = digit_at s j (omega arith) (and_right (is_digit x) (all is_digit s) e)
+    pub reading_more : n * 10 + (get_or s j 0 - 48) < 2 ^ 64 → Reading s (j + 1) (n * 10 + (get_or s j 0 - 48))
+    reading_more f = record { small = f; worth_is = next; many = omega (arith, g.many, ap length (run_yes is_digit s j h d)) }
+
+    pub reading_over : 2 ^ 64 ≤ n * 10 + (get_or s j 0 - 48) → leading s ≡ None
+    unfolding leading in_64_bits
+    reading_over f =
+        let k = worth_grows (n * 10 + (get_or s j 0 - 48)) (run is_digit (drop (j + 1) s)) in
+        rw (le-ltb (worth 0 (run is_digit s)) (2 ^ 64) (rw next (omega arith)))
+
+-- what a test of the class says of a byte
+pub digit_yes : (x : ℕ) {t : Bool} → t ≡ is_in Digit x → t ≡ true → is_digit x ≡ true
+unfolding is_in
+digit_yes x e h = sym e ∙ h
+
+pub digit_no : (x : ℕ) {t : Bool} → t ≡ is_in Digit x → t ≡ false → is_digit x ≡ false
+unfolding is_in
+digit_no x e h = sym e ∙ h
 
 pub digit_low : (x : ℕ) → is_digit x ≡ true → 48 ≤ x
 unfolding is_digit
@@ -117,51 +130,63 @@ pub digit_high : (x : ℕ) → is_digit x ≡ true → x ≤ 57
 unfolding is_digit
 digit_high x h = at_most 48 x 57 h
 
--- ---- a number from index i on, whose digits end at index e
+-- ---- a number from index i on, by the digits at the front of what is left there
 
-module _ {s : Text} {i e : ℕ} (g : RunEnd (is_in Digit) s i e) where
-  digits_are : take (e - i) (drop i s) ≡ run is_digit (drop i s)
-  unfolding part is_in
-  digits_are = g.run_is
+empty_is : (t : Text) → length t ≡ 0 → is_empty t ≡ true
+unfolding is_empty
+empty_is [] h = refl
+empty_is (x ∷ t) h = absurd (omega (arith, h))
 
-  behind : drop e s ≡ rest is_digit (drop i s)
-  unfolding is_in
-  behind = g.rest_is
+full_is : (t : Text) → (length t ≡ 0 → ⊥) → is_empty t ≡ false
+unfolding is_empty
+full_is [] h = absurd (h refl)
+full_is (x ∷ t) h = refl
 
-  pub all_digits : all is_digit (take (e - i) (drop i s)) ≡ true
-  all_digits = rw digits_are (all_run is_digit (drop i s))
+-- what is said of the digits at the front
+leads : (t : Text) {n k : ℕ} → Some (n, k) ≡ leading t → (ltb (worth 0 (run is_digit t)) (2 ^ 64) ≡ true) × (worth 0 (run is_digit t) ≡ n) × (length (run is_digit t) ≡ k)
+unfolding leading in_64_bits
+leads t {n} {k} e = go (ltb (worth 0 (run is_digit t)) (2 ^ 64)) refl e
+  where
+    go : (b : Bool) → ltb (worth 0 (run is_digit t)) (2 ^ 64) ≡ b → ◌≡◌ {A = Option (ℕ × ℕ)} (Some (n, k)) (option_map (λ m. (m, length (run is_digit t))) (cond b (Some (worth 0 (run is_digit t))) None))
+        → (ltb (worth 0 (run is_digit t)) (2 ^ 64) ≡ true) × (worth 0 (run is_digit t) ≡ n) × (length (run is_digit t) ≡ k)
+    go true q f = let p = some_pair_parts _ _ _ _ (sym f) in (q, p.0, p.1)
+    go false q f = absurd (none-some _ (sym f))
 
-  pub no_digits : e ≡ i → TakenAt take_number s i None
-  unfolding take_number as_taken is_empty
-  no_digits q =
-      let z : e - i ≡ 0 = omega arith in
-      let r : run is_digit (drop i s) ≡ [] = sym digits_are ∙ rw z in
-      record { is = rw r; inside = tt }
+leads_none : (t : Text) → None ≡ leading t → ltb (worth 0 (run is_digit t)) (2 ^ 64) ≡ false
+unfolding leading in_64_bits
+leads_none t e = go (ltb (worth 0 (run is_digit t)) (2 ^ 64)) refl e
+  where
+    go : (b : Bool) → ltb (worth 0 (run is_digit t)) (2 ^ 64) ≡ b → ◌≡◌ {A = Option (ℕ × ℕ)} None (option_map (λ m. (m, length (run is_digit t))) (cond b (Some (worth 0 (run is_digit t))) None))
+        → ltb (worth 0 (run is_digit t)) (2 ^ 64) ≡ false
+    go true q f = absurd (none-some _ f)
+    go false q f = q
 
-  some_digits : (e ≡ i → ⊥) → is_empty (run is_digit (drop i s)) ≡ false
-  unfolding is_empty
-  some_digits q = go (run is_digit (drop i s)) (ap length (sym digits_are) ∙ part_length)
-    where
-      part_length : length (take (e - i) (drop i s)) ≡ e - i
-      part_length = simp length-take (simp length-drop (omega (arith, g.high)))
+module _ (s : Text) (i : ℕ) where
+  pub number_large : None ≡ leading (take (length s - i) (drop i s)) → TakenAt take_number s i None
+  unfolding take_number as_taken
+  number_large e =
+      let p = leads_none (drop i s) (rw (drop_slice s i) at e) in
+      record { is = sym (rw (p, and_false)); inside = tt }
 
-      go : (t : Text) → length t ≡ e - i → is_empty t ≡ false
-      go [] l = absurd (q (omega (arith, l, g.low)))
-      go (x ∷ t) l = refl
+  module _ {n k : ℕ} (e : Some (n, k) ≡ leading (take (length s - i) (drop i s))) where
+    front : (ltb (worth 0 (run is_digit (drop i s))) (2 ^ 64) ≡ true) × (worth 0 (run is_digit (drop i s)) ≡ n) × (length (run is_digit (drop i s)) ≡ k)
+    front = leads (drop i s) (rw (drop_slice s i) at e)
 
-  pub number_large : (e ≡ i → ⊥) → None ≡ in_64_bits (worth 0 (take (e - i) (drop i s))) → TakenAt take_number s i None
-  unfolding take_number as_taken in_64_bits
-  number_large q f = record { is = go _ (rw digits_are at f); inside = tt }
-    where
-      go : (b : Bool) → None ≡ cond b (Some (worth 0 (run is_digit (drop i s)))) None → refused ≡ cond (not (is_empty (run is_digit (drop i s))) && b) (taken (worth 0 (run is_digit (drop i s))) (rest is_digit (drop i s))) refused
-      go true h = absurd (none-some _ h)
-      go false h = rw (some_digits q) refl
+    pub number_high : i ≤ length s → i + k ≤ length s
+    number_high h = omega (arith, front.2, run_rest_length is_digit (drop i s), length-drop i s)
 
-  pub number_found : {n : ℕ} → (e ≡ i → ⊥) → Some n ≡ in_64_bits (worth 0 (take (e - i) (drop i s))) → TakenAt take_number s i (Some (n, e))
-  unfolding take_number as_taken in_64_bits
-  number_found {n} q f =
-      let p = cond_some _ _ _ (sym (rw digits_are at f)) in
-      record { is = sym (rw (some_digits q, p.0, p.1, behind)); inside = (g.low, g.high) }
+    pub no_digits : k ≡ 0 → TakenAt take_number s i None
+    unfolding take_number as_taken
+    no_digits q =
+        let h : length (run is_digit (drop i s)) ≡ 0 = front.2 ∙ q in
+        record { is = sym (rw (empty_is (run is_digit (drop i s)) h)); inside = tt }
+
+    pub number_found : i ≤ length s → (k ≡ 0 → ⊥) → TakenAt take_number s i (Some (n, i + k))
+    unfolding take_number as_taken
+    number_found h q =
+        let full : is_empty (run is_digit (drop i s)) ≡ false = full_is (run is_digit (drop i s)) (λ z. q (sym front.2 ∙ z)) in
+        let behind : drop (i + k) s ≡ rest is_digit (drop i s) = sym (drop-drop k i s) ∙ rw (← front.2) (drop_run is_digit (drop i s)) in
+        record { is = sym (rw (full, front.0, front.1, behind)); inside = (omega arith, number_high h) }
 
 -- an answer, as the arm of a match knows it
 pub known : {f : Text → Taken} {s : Text} {i : ℕ} {a b : Option (ℕ × ℕ)} → TakenAt f s i a → a ≡ b → TakenAt f s i b

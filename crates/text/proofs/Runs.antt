@@ -163,6 +163,10 @@ module _ (p : ℕ → Bool) where
   pub run_rest_length : (s : Text) → length (run p s) + length (rest p s) ≡ length s
   run_rest_length s = sym (length-append (run p s) (rest p s)) ∙ ap length (run_rest s)
 
+-- what stands behind its first run
+pub drop_run : (p : ℕ → Bool) (s : Text) → drop (length (run p s)) s ≡ rest p s
+drop_run p s = ap (drop (length (run p s))) (sym (run_rest p s)) ∙ drop_at (run p s) (rest p s) (length (run p s)) refl
+
 -- the slice from index i to the end
 pub drop_slice : (s : Text) (i : ℕ) → take (length s - i) (drop i s) ≡ drop i s
 drop_slice s i = take_all (length s - i) (drop i s) (simp length-drop (omega arith))

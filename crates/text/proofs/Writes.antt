@@ -1,14 +1,25 @@
 -- Laws of `put`, `Wrote` and `zeroed`. Assumes nothing.
-use mathlib.Core.Path.{◌≡◌, sym, ap, ◌∙◌}
+use mathlib.Core.Path.{◌≡◌, refl, sym, ap, ◌∙◌}
 use mathlib.Core.List.{[], ◌∷◌, ◌++◌, append-nil, append_assoc}
 use Prim.Native.Nat.{ℕ, suc, ◌+◌, ◌-◌, ◌≤◌, ◌<◌}
 use native.Mathlib.Nat.{add_assoc, add-zero, zero-add}
 use native.Mathlib.Numerals.{add-one}
 use native.Mathlib.Omega.{arith}
-use lib.ListN.{length, take, drop, set, replicate, length-append, length-take, length-drop, drop_of_length-le, take-append-drop}
-use lib.Seq.{drop-length, take_at, drop_at, drop-drop, set_split, set_at, take-suc, length-take-le}
+use lib.ListN.{length, take, drop, get_or, set, replicate, length-append, length-take, length-drop, drop_of_length-le, take-append-drop}
+use lib.Seq.{drop-length, paste, take-length, take_at, drop_at, drop-drop, set_split, set_at, take-suc, length-take-le}
 use borrow.Rule.Slice.PartMut.{put_mid}
+use Rattle.std.proofs.lemmas.List.Edits.{paste_more}
 use Rattle.text.specs.Text.{Text, put, Wrote, zeroed}
+
+-- ---- a copy that has come to index j of what is copied
+
+pub copied_more : (d₀ : Text) (at : ℕ) (s : Text) (j : ℕ) {d : Text} → d ≡ paste d₀ at s j → at + j < length d₀ → j < length s
+    → set d (at + j) (get_or s j 0) ≡ paste d₀ at s (j + 1)
+copied_more d₀ at s j e h k = rw e (paste_more d₀ at s j 0 h k)
+
+pub copied_all : (d : Text) (at : ℕ) (s : Text) {j : ℕ} {d' : Text} → d' ≡ paste d at s j → j ≡ length s → at + length s ≤ length d → Wrote d at s d' (at + length s)
+unfolding put
+copied_all d at s {j} e h l = record { end = refl; high = l; text = e ∙ rw (h, take-length) }
 
 -- ---- a part that was written whole
 

@@ -1,10 +1,10 @@
 // Decimal numbers: printing and reading.
-ghost use Rattle.std.specs.Prelude.{◌≡◌, true, ◌+◌, ◌≤◌, ◌<◌, length};
-ghost use Rattle.text.specs.Text.{Wrote, is_digit, all};
-ghost use Rattle.text.specs.Number.{decimal, worth, take_number, TakenAt};
-ghost use Rattle.text.specs.Inner.{in_64_bits};
+ghost use Rattle.std.specs.Prelude.{◌≡◌, ◌+◌, ◌≤◌, ◌<◌, length};
+ghost use Rattle.text.specs.Text.{Wrote};
+ghost use Rattle.text.specs.Number.{decimal, take_number, TakenAt};
+ghost use Rattle.text.specs.Inner.{leading};
 
-use super::bytes::{Class, run_end};
+use super::bytes::{Class, is_in};
 
 // A digit as a byte.
 pub fn digit(n: u64) -> u8
@@ -38,16 +38,18 @@ pub fn decimal_len(n: u64) -> usize
     }
 }
 
-// What digits are worth, if 64 bits hold it.
-fn worth(digits: &[u8]) -> Option<u64>
-    requires { all is_digit digits.now ≡ true }
-    ensures { result ≡ in_64_bits (worth 0 digits.now) }
+// What the digits at the front of s are worth, with how many they are, if 64 bits hold it.
+fn leading(s: &[u8]) -> Option<(u64, usize)>
+    ensures { result ≡ leading s.now }
 {
     let mut n: u64 = 0;
-    for b in digits {
+    for (j, b) in s.iter().enumerate() {
+        if !is_in(Class::Digit, *b) {
+            return Some((n, j));
+        }
         n = n.checked_mul(10)?.checked_add((*b - b'0') as u64)?;
     }
-    Some(n)
+    Some((n, s.len()))
 }
 
 // Reads the digits from index i on, at least one, as a u64; gives the index behind them too.
@@ -55,10 +57,9 @@ pub fn number_at(s: &[u8], i: usize) -> Option<(u64, usize)>
     requires { i ≤ length s.now }
     ensures { TakenAt take_number s.now i result }
 {
-    let end = run_end(s, i, Class::Digit);
-    if end == i {
+    let (n, len) = leading(&s[i..])?;
+    if len == 0 {
         return None;
     }
-    let n = worth(&s[i..end])?;
-    Some((n, end))
+    Some((n, i + len))
 }
