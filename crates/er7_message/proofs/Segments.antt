@@ -1,5 +1,5 @@
 -- Laws of one segment. Assumes nothing.
-use Rattle.std.proofs.Common.{◌≡◌, refl, sym, ap, ◌∙◌, Bool, true, false, ◌||◌, List, [], ◌∷◌, ℕ, suc, ◌+◌, ◌-◌, ◌≤◌, ◌<◌, length, take, drop, get_or, set, leb, Ok, Err, arith, le-leb, lt-ltb, length-take, length-drop, length-set, drop_of_length-le, drop-drop, drop-cons, get_or-take, get_or-set_same, get_or-set_other}
+use Rattle.std.proofs.Common.{◌≡◌, refl, sym, ap, ◌∙◌, Bool, true, false, ◌||◌, List, [], ◌∷◌, ℕ, suc, ◌+◌, ◌-◌, ◌≤◌, ◌<◌, length, take, drop, get_or, leb, Ok, Err, arith, le-leb, lt-ltb, length-take, length-drop, drop_of_length-le, drop-drop, drop-cons, get_or-take}
 use Rattle.std.specs.declared.result.Result.{Result}
 use Rattle.std.proofs.Math.Option.{some}
 use mathlib.Core.Logic.{dite}
@@ -16,9 +16,9 @@ use Rattle.message_model.specs.Message.{leaf, next, leaves, leaves_behind, at_fi
 use Rattle.message_model.proofs.Faultless.{named_line}
 use Rattle.er7_table.specs.declared.table.Leaf.{Leaf as HeldLeaf}
 use Rattle.er7_table.specs.declared.table.Segment.{Segment as HeldSegment}
-use Rattle.er7_table.specs.declared.table.TheConstants.{NO_LEAF}
-use Rattle.er7_table.specs.Table.{list_of, leaf_row, place_at, stored_text, leaf_at, leaves_from, Within, as_label}
-use Rattle.er7_table.specs.Filling.{SegmentPut, Filled, LeavesRead}
+use Rattle.er7_table.specs.Table.{list_of, leaf_row, place_at, leaf_at, leaves_from, Within, as_label}
+use Rattle.er7_table.specs.Filling.{LeafPut, SegmentPut, Filled, LeavesRead}
+use Rattle.er7_table.proofs.Laws.{leaf_kept, place_kept}
 use Rattle.er7_table.proofs.Reading.{within_next, read_front}
 use Rattle.er7_message.specs.Inner.{line, names, SegmentRead}
 
@@ -26,6 +26,10 @@ use Rattle.er7_message.specs.Inner.{line, names, SegmentRead}
 
 abbrev pub in_field : ℕ → Place
 in_field n = record { field = n; repetition = 1; component = 1; subcomponent = 1 }
+
+pub put_at : (n : ℕ) {p : Place} → p ≡ at_field n → {held held' : List HeldLeaf} {i start m : ℕ} → LeafPut held i p start m held' → LeafPut held i (in_field n) start m held'
+unfolding at_field
+put_at n e g = rw e at g
 
 pub next_at : (s : Separators) (x n : ℕ) {p q : Place} → p ≡ next s x q → q ≡ at_field n → p ≡ next s x (in_field n)
 unfolding at_field
@@ -184,85 +188,64 @@ module _ (s : Separators) (t : Text) (e : ℕ) (long : 8 ≤ e) (inside : e ≤ 
   }
 
   -- MSH-1 and MSH-2 are the first two rows
-  module _ (held : List HeldLeaf) (room : 1 < length held) (p q : Place) (e₁ : p ≡ at_field 1) (e₂ : q ≡ at_field 2) where
-    abbrev leaf_0 : HeldLeaf
-    leaf_0 = record { start = 3; len = 1; gone = false; place = p }
+  module _ {held held₁ held₂ held' : List HeldLeaf} {r : ℕ} (p : LeafPut held 0 (in_field 1) 3 1 held₁) (q : LeafPut held₁ 1 (in_field 2) 4 4 held₂)
+      (g : LeavesRead (leaves_behind s (at_field 2) (drop 8 (take e t))) t e 2 held₂ held' (Ok r)) where
+    kept_0 : leaf_row held' 0 ≡ leaf_row held₁ 0
+    kept_0 = g.before 0 (omega arith) ∙ q.other 0 (λ x. absurd (omega (arith, x)))
 
-    abbrev leaf_1 : HeldLeaf
-    leaf_1 = record { start = 4; len = 4; gone = false; place = q }
+    kept_1 : leaf_row held' 1 ≡ leaf_row held₂ 1
+    kept_1 = g.before 1 (omega arith)
 
-    abbrev two : List HeldLeaf
-    two = set (set held 0 leaf_0) 1 leaf_1
+    row_0 : leaf_at (λ i. false) held' t 0 ≡ leaf (in_field 1) false (some (s.field ∷ []))
+    row_0 = leaf_kept held₁ held' (λ i. false) t 0 kept_0 ∙ p.here (λ i. false) t ∙ rw one_byte
 
-    module _ {held' : List HeldLeaf} {r : ℕ} (g : LeavesRead (leaves_behind s (at_field 2) (drop 8 (take e t))) t e 2 two held' (Ok r)) where
-      row_0 : leaf_row held' 0 ≡ leaf_0
-      row_0 =
-          g.before 0 (omega arith) ∙ get_or-set_other (set held 0 leaf_0) 1 0 leaf_1 NO_LEAF (λ x. absurd (omega (arith, x)))
-          ∙ get_or-set_same held 0 leaf_0 NO_LEAF (omega arith)
+    row_1 : leaf_at (λ i. false) held' t 1 ≡ leaf (in_field 2) false (some (s.component ∷ s.repetition ∷ s.escape ∷ s.subcomponent ∷ []))
+    row_1 = leaf_kept held₂ held' (λ i. false) t 1 kept_1 ∙ q.here (λ i. false) t ∙ rw four_bytes
 
-      row_1 : leaf_row held' 1 ≡ leaf_1
-      row_1 = g.before 1 (omega arith) ∙ get_or-set_same (set held 0 leaf_0) 1 leaf_1 NO_LEAF (rw length-set (omega arith))
+    two_rows : (m : ℕ) → leaves_from (λ i. false) held' t 0 (suc (suc m))
+        ≡ leaf (in_field 1) false (some (s.field ∷ [])) ∷ leaf (in_field 2) false (some (s.component ∷ s.repetition ∷ s.escape ∷ s.subcomponent ∷ []))
+        ∷ leaves_from (λ i. false) held' t 2 m
+    unfolding leaves_from list_of
+    two_rows m = rw (row_0, row_1)
 
-      place_0 : place_at held' 0 ≡ in_field 1
-      unfolding place_at at_field
-      place_0 = ap (λ (x : HeldLeaf). x.place) row_0 ∙ e₁
+    header_ends : (i : ℕ) → 0 ≤ i → i < r → (leaf_row held' i).start + (leaf_row held' i).len ≤ length t
+    header_ends i a b = dite (ℕ_discrete i 0)
+        (λ x. rw (x, kept_0, p.begins, p.long) (omega arith))
+        (λ x. dite (ℕ_discrete i 1)
+        (λ y. rw (y, kept_1, q.begins, q.long) (omega arith))
+        (λ y. g.fitted.ends i (omega arith) b))
 
-      place_1 : place_at held' 1 ≡ in_field 2
-      unfolding place_at at_field
-      place_1 = ap (λ (x : HeldLeaf). x.place) row_1 ∙ e₂
+    header_within : (i : ℕ) → 0 ≤ i → i < r → Within (place_at held' i) (length t)
+    header_within i a b = dite (ℕ_discrete i 0)
+        (λ x. rw (x, place_kept held₁ held' 0 kept_0, p.place) (within_field 1 (length t) (omega arith) (omega arith)))
+        (λ x. dite (ℕ_discrete i 1)
+        (λ y. rw (y, place_kept held₂ held' 1 kept_1, q.place) (within_field 2 (length t) (omega arith) (omega arith)))
+        (λ y. g.fitted.within i (omega arith) b))
 
-      text_0 : stored_text held' t 0 ≡ some (s.field ∷ [])
-      unfolding stored_text
-      text_0 = rw (row_0, one_byte)
+    header_filled : Filled (leaves_of s (line t 0 e)) t 0 held' r
+    header_filled =
+        let z : r - 0 ≡ suc (suc (r - 2)) = omega (arith, g.fitted.count) in
+        rw leaves_are_three (record {
+          count = omega (arith, g.fitted.count);
+          are = rw (z, two_rows (r - 2), g.fitted.are);
+          ends = header_ends;
+          within = header_within;
+        })
 
-      text_1 : stored_text held' t 1 ≡ some (s.component ∷ s.repetition ∷ s.escape ∷ s.subcomponent ∷ [])
-      unfolding stored_text
-      text_1 = rw (row_1, four_bytes)
-
-      two_rows : (m : ℕ) → leaves_from (λ i. false) held' t 0 (suc (suc m))
-          ≡ leaf (in_field 1) false (some (s.field ∷ [])) ∷ leaf (in_field 2) false (some (s.component ∷ s.repetition ∷ s.escape ∷ s.subcomponent ∷ []))
-          ∷ leaves_from (λ i. false) held' t 2 m
-      unfolding leaves_from list_of leaf_at
-      two_rows m = rw (place_0, place_1, text_0, text_1)
-
-      header_ends : (i : ℕ) → 0 ≤ i → i < r → (leaf_row held' i).start + (leaf_row held' i).len ≤ length t
-      header_ends i a b = dite (ℕ_discrete i 0)
-          (λ x. rw (x, row_0) (omega arith))
-          (λ x. dite (ℕ_discrete i 1)
-          (λ y. rw (y, row_1) (omega arith))
-          (λ y. g.fitted.ends i (omega arith) b))
-
-      header_within : (i : ℕ) → 0 ≤ i → i < r → Within (place_at held' i) (length t)
-      header_within i a b = dite (ℕ_discrete i 0)
-          (λ x. rw (x, place_0) (within_field 1 (length t) (omega arith) (omega arith)))
-          (λ x. dite (ℕ_discrete i 1)
-          (λ y. rw (y, place_1) (within_field 2 (length t) (omega arith) (omega arith)))
-          (λ y. g.fitted.within i (omega arith) b))
-
-      header_filled : Filled (leaves_of s (line t 0 e)) t 0 held' r
-      header_filled =
-          let z : r - 0 ≡ suc (suc (r - 2)) = omega (arith, g.fitted.count) in
-          rw leaves_are_three (record {
-            count = omega (arith, g.fitted.count);
-            are = rw (z, two_rows (r - 2), g.fitted.are);
-            ends = header_ends;
-            within = header_within;
-          })
-
-      pub header_fits : {segs segs' : List HeldSegment} {put : HeldSegment} → put.first ≡ 0 → as_label put.label ≡ record { name = take 3 (take e t); occurrence = 1 }
-          → SegmentPut segs 0 put r segs' → SegmentRead s t (line t 0 e) e 0 0 segs held segs' held' (Ok r)
-      unfolding names list_of count
-      header_fits f c w = record {
-        fitted = record {
-          few = omega arith;
-          filled = header_filled;
-          label = w.label ∙ c ∙ rw line_0;
-          begins = w.begins ∙ f;
-          ends = w.ends;
-          rows = w.other;
-          before = λ i a. absurd (omega arith);
-        };
-        few = g.few;
-        most = g.most;
-        too_many = tt;
-      }
+    pub header_fits : {segs segs' : List HeldSegment} {put : HeldSegment} → put.first ≡ 0 → as_label put.label ≡ record { name = take 3 (take e t); occurrence = 1 }
+        → SegmentPut segs 0 put r segs' → SegmentRead s t (line t 0 e) e 0 0 segs held segs' held' (Ok r)
+    unfolding names list_of count
+    header_fits f c w = record {
+      fitted = record {
+        few = omega arith;
+        filled = header_filled;
+        label = w.label ∙ c ∙ rw line_0;
+        begins = w.begins ∙ f;
+        ends = w.ends;
+        rows = w.other;
+        before = λ i a. absurd (omega arith);
+      };
+      few = g.few;
+      most = g.most;
+      too_many = tt;
+    }

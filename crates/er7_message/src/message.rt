@@ -13,7 +13,8 @@ use super::separators::{is_header, separators_of};
 use er7::message::Label;
 use er7::separators::Separators;
 use er7_table::table::{
-    Leaf, SEGMENT_ROWS, Segment, at_field, is_header_name, label_of, next, put_segment, read_leaves,
+    Leaf, SEGMENT_ROWS, Segment, at_field, is_header_name, label_of, next, put_leaf, put_segment,
+    read_leaves,
 };
 use refusal::Refusal;
 use refusal::input::{Input, no_foreign};
@@ -155,18 +156,8 @@ fn read_header(
     requires { (8 ≤ e) × (e ≤ length text.now) × (s ≡ separators_of (line text.now 0 e)) × LeafRoom leaves.old (length text.now) × (is_header_name (take 3 (line text.now 0 e)) ≡ true) }
     ensures { SegmentRead s text.now (line text.now 0 e) e 0 0 segments.old leaves.old segments.new leaves.new result }
 {
-    leaves[0] = Leaf {
-        start: 3,
-        len: 1,
-        gone: false,
-        place: at_field(1),
-    };
-    leaves[1] = Leaf {
-        start: 4,
-        len: 4,
-        gone: false,
-        place: at_field(2),
-    };
+    put_leaf(leaves, 0, at_field(1), 3, 1);
+    put_leaf(leaves, 1, at_field(2), 4, 4);
     let n = read_behind(text, 8, e, s, 2, 2, leaves)?;
     let label = label_of(&text[..e], 1);
     put_segment(segments, 0, Segment { first: 0, label }, n);

@@ -1,5 +1,5 @@
 -- Reading a text's leaves. Assumes nothing.
-use Rattle.std.proofs.Common.{◌≡◌, refl, sym, ap, ap₂, ◌∙◌, Bool, true, false, not, List, [], ◌∷◌, ◌++◌, ℕ, suc, ◌+◌, ◌-◌, ◌≤◌, ◌<◌, length, take, drop, get_or, set, eqb, Ok, Err, arith, one-add, append-nil, append_assoc, length-append, length-drop, length-set, length-take-le, drop-drop, drop_of_length-le, get_or-drop, get_or-set_same, get_or-set_other}
+use Rattle.std.proofs.Common.{◌≡◌, refl, sym, ap, ap₂, ◌∙◌, Bool, true, false, not, List, [], ◌∷◌, ◌++◌, ℕ, suc, ◌+◌, ◌-◌, ◌≤◌, ◌<◌, length, take, drop, get_or, eqb, Ok, Err, arith, one-add, append-nil, append_assoc, length-append, length-drop, length-take-le, drop-drop, drop_of_length-le, get_or-drop}
 use Rattle.std.specs.List.{position_or_len}
 use Rattle.std.specs.declared.result.Result.{Result}
 use Rattle.std.proofs.lemmas.List.Sums.{prefix_len-le-length, passes_at_first}
@@ -18,9 +18,8 @@ use Rattle.er7.specs.declared.message.Place.{Place}
 use Rattle.er7.specs.declared.separators.Separators.{Separators}
 use Rattle.message_model.specs.Message.{Leaf, leaf, ends_leaf, next, leaves}
 use Rattle.er7_table.specs.declared.table.Leaf.{Leaf as HeldLeaf}
-use Rattle.er7_table.specs.declared.table.TheConstants.{NO_LEAF}
 use Rattle.er7_table.specs.Table.{list_of, leaf_row, place_at, stored_text, leaf_at, leaves_from, Within}
-use Rattle.er7_table.specs.Filling.{LeafEnd, LeafRoom, LeavesRead}
+use Rattle.er7_table.specs.Filling.{LeafEnd, LeafPut, LeafRoom, LeavesRead}
 use Rattle.er7_table.proofs.Laws.{list_snoc, list_ext, list_length, leaves_kept, place_kept}
 
 -- ---- the numbers of a place
@@ -173,24 +172,10 @@ module _ {s : Separators} {t : Text} {from : ℕ} {p₀ : Place} {n₀ : ℕ} {h
   pub going_room : LeafRoom held₀ (length t) → n < LEAVES_MAX → n < length held
   going_room h m = rw go.long (h.room n m (omega (arith, go.ahead, go.inside)))
 
-  module _ {e : ℕ} (end : LeafEnd s t i e) (room : n < length held) where
-    -- the leaf that is read, and the table with it
-    abbrev read : HeldLeaf
-    read = record { start = i; len = e - i; gone = false; place = p }
-
-    abbrev held' : List HeldLeaf
-    held' = set held n read
-
-    here : leaf_row held' n ≡ read
-    here = get_or-set_same held n read NO_LEAF room
-
-    place_here : place_at held' n ≡ p
-    unfolding place_at
-    place_here = ap (λ (r : HeldLeaf). r.place) here
-
+  module _ {e : ℕ} {held' : List HeldLeaf} (end : LeafEnd s t i e) (put : LeafPut held n p i (e - i) held') where
     -- a row that was read before
     kept : (j : ℕ) → j < n → leaf_row held' j ≡ leaf_row held j
-    kept j h = get_or-set_other held n j read NO_LEAF (λ q. absurd (omega arith))
+    kept j h = put.other j (λ q. absurd (omega arith))
 
     -- one row more
     rows_more : leaves_from (λ i. false) held' t n₀ (n + 1 - n₀) ≡ leaves_from (λ i. false) held t n₀ (n - n₀) ++ leaf p false (some (part t i (e - i))) ∷ []
@@ -198,22 +183,19 @@ module _ {s : Separators} {t : Text} {from : ℕ} {p₀ : Place} {n₀ : ℕ} {h
         let z : n + 1 - n₀ ≡ suc (n - n₀) = omega (arith, go.low) in
         let y : n₀ + (n - n₀) ≡ n = omega (arith, go.low) in
         rw z (snoc (n - n₀)
-        ∙ ap₂ (λ (xs : List Leaf) (x : Leaf). xs ++ x ∷ []) (leaves_kept held held' (λ i. false) t n₀ (n - n₀) (λ j l. kept j (omega arith))) (rw y read_here))
+        ∙ ap₂ (λ (xs : List Leaf) (x : Leaf). xs ++ x ∷ []) (leaves_kept held held' (λ i. false) t n₀ (n - n₀) (λ j l. kept j (omega arith))) (rw y (put.here (λ i. false) t)))
       where
         snoc : (m : ℕ) → leaves_from (λ i. false) held' t n₀ (suc m) ≡ leaves_from (λ i. false) held' t n₀ m ++ leaf_at (λ i. false) held' t (n₀ + m) ∷ []
         snoc m = unfold leaves_from in list_snoc (leaf_at (λ i. false) held' t) n₀ m
 
-        read_here : leaf_at (λ i. false) held' t n ≡ leaf p false (some (part t i (e - i)))
-        read_here = unfold leaf_at in unfold stored_text in rw (place_here, here)
-
     ends_more : (j : ℕ) → n₀ ≤ j → j < n + 1 → (leaf_row held' j).start + (leaf_row held' j).len ≤ length t
     ends_more j a c = dite (ℕ_discrete j n)
-        (λ q. rw (q, here) (omega (arith, end.low, end.high)))
+        (λ q. rw (q, put.begins, put.long) (omega (arith, end.low, end.high)))
         (λ ne. rw (kept j (omega arith)) (go.ends j a (omega arith)))
 
     within_rows : (j : ℕ) → n₀ ≤ j → j < n + 1 → Within (place_at held' j) (length t)
     within_rows j a c = dite (ℕ_discrete j n)
-        (λ q. rw (q, place_here) (within_more p i (length t) go.inside go.small))
+        (λ q. rw (q, put.place) (within_more p i (length t) go.inside go.small))
         (λ ne. rw (place_kept held held' j (kept j (omega arith))) (go.within j a (omega arith)))
 
     before_more : (j : ℕ) → j < n₀ → leaf_row held' j ≡ leaf_row held₀ j
@@ -249,7 +231,7 @@ module _ {s : Separators} {t : Text} {from : ℕ} {p₀ : Place} {n₀ : ℕ} {h
       ends = ends_more;
       within = within_rows;
       before = before_more;
-      long = length-set held n read ∙ go.long;
+      long = put.rows ∙ go.long;
     }
 
 -- what was read from the front of a text stands in the text

@@ -1,16 +1,17 @@
 -- How the tables are filled. Assumes nothing: these are definitions.
-use Rattle.std.specs.Prelude.{◌≡◌, true, false, List, [], ℕ, ◌+◌, ◌-◌, ◌≤◌, ◌<◌, length, drop, get_or, IfOk, IfErr}
+use Rattle.std.specs.Prelude.{◌≡◌, Bool, true, false, List, [], ℕ, ◌+◌, ◌-◌, ◌≤◌, ◌<◌, length, drop, get_or, IfOk, IfErr}
 use Rattle.std.specs.declared.result.Result.{Result}
+use Rattle.std.proofs.Math.Option.{some}
 use Rattle.text.specs.Text.{Text, part}
 use Rattle.refusal.specs.declared.Refusal.{Refusal}
 use Rattle.refusal.specs.declared.Refusal.TheVariants.{TooMany}
 use Rattle.refusal.specs.Limits.{LEAVES_MAX}
 use Rattle.er7.specs.declared.message.Place.{Place}
 use Rattle.er7.specs.declared.separators.Separators.{Separators}
-use Rattle.message_model.specs.Message.{Leaf, ends_leaf, leaves}
+use Rattle.message_model.specs.Message.{Leaf, leaf, ends_leaf, leaves}
 use Rattle.er7_table.specs.declared.table.Leaf.{Leaf as HeldLeaf}
 use Rattle.er7_table.specs.declared.table.Segment.{Segment as HeldSegment}
-use Rattle.er7_table.specs.Table.{leaf_row, place_at, leaves_from, Within, segment_row, first_leaf, as_label, label_at}
+use Rattle.er7_table.specs.Table.{leaf_row, place_at, leaf_at, leaves_from, Within, segment_row, first_leaf, as_label, label_at}
 
 -- r is where the leaf of t that begins at index i ends
 pub record LeafEnd (s : Separators) (t : Text) (i r : ℕ) : Type 0 where
@@ -18,6 +19,16 @@ pub record LeafEnd (s : Separators) (t : Text) (i r : ℕ) : Type 0 where
   pub high : r ≤ length t
   pub runs : (p : Place) → leaves s p [] (drop i t) ≡ leaves s p (part t i (r - i)) (drop r t)
   pub stops : r < length t → ends_leaf s (get_or t r 0) ≡ true
+
+-- row i became the leaf at p whose text is n bytes of the store from index `start` on; no other row changed
+pub record LeafPut (held : List HeldLeaf) (i : ℕ) (p : Place) (start n : ℕ) (held' : List HeldLeaf) : Type 0 where
+  pub begins : (leaf_row held' i).start ≡ start
+  pub long : (leaf_row held' i).len ≡ n
+  pub stands : (leaf_row held' i).gone ≡ false
+  pub place : place_at held' i ≡ p
+  pub here : (named : ℕ → Bool) (store : Text) → leaf_at named held' store i ≡ leaf p (named i) (some (part store start n))
+  pub other : (j : ℕ) → (j ≡ i → ⊥) → leaf_row held' j ≡ leaf_row held j
+  pub rows : length held' ≡ length held
 
 -- row k became that segment, whose leaves end before `end`; no row before it changed
 pub record SegmentPut (segs : List HeldSegment) (k : ℕ) (put : HeldSegment) (end : ℕ) (segs' : List HeldSegment) : Type 0 where

@@ -4,8 +4,8 @@ ghost use Rattle.std.specs.List.{position_or_len};
 ghost use Rattle.text.specs.Text.{part};
 ghost use Rattle.message_model.specs.Message as Message;
 ghost use Rattle.er7_table.specs.Table.{Within, as_label};
-ghost use Rattle.er7_table.specs.Filling.{LeafEnd, SegmentPut, LeafRoom, LeavesRead};
-ghost use Rattle.refusal.specs.Limits.{LEAVES_MAX, SEGMENTS_MAX};
+ghost use Rattle.er7_table.specs.Filling.{LeafEnd, LeafPut, SegmentPut, LeafRoom, LeavesRead};
+ghost use Rattle.refusal.specs.Limits.{LEAVES_MAX};
 
 use er7::message::{Label, Place};
 use er7::separators::Separators;
@@ -152,9 +152,22 @@ pub fn leaf_end(text: &[u8], i: usize, s: Separators) -> usize
     i + leaf_len(&text[i..], s)
 }
 
+// Makes row i the leaf at place whose text is len bytes of the store from index start on.
+pub fn put_leaf(leaves: &mut [Leaf], i: usize, place: Place, start: usize, len: usize)
+    requires { i < length leaves.old }
+    ensures { LeafPut leaves.old i place start len leaves.new }
+{
+    leaves[i] = Leaf {
+        start,
+        len,
+        gone: false,
+        place,
+    };
+}
+
 // Makes row k the segment, whose leaves end before end.
-pub fn put_segment(segments: &mut [Segment; SEGMENT_ROWS], k: usize, segment: Segment, end: usize)
-    requires { k < SEGMENTS_MAX }
+pub fn put_segment(segments: &mut [Segment], k: usize, segment: Segment, end: usize)
+    requires { k + 1 < length segments.old }
     ensures { SegmentPut segments.old k segment end segments.new }
 {
     segments[k] = segment;
@@ -178,12 +191,7 @@ pub fn read_leaves(
     let mut p = place;
     for n in n0..LEAVES_MAX {
         let e = leaf_end(text, i, s);
-        leaves[n] = Leaf {
-            start: i,
-            len: e - i,
-            gone: false,
-            place: p,
-        };
+        put_leaf(leaves, n, p, i, e - i);
         if e == text.len() {
             return Ok(n + 1);
         }
