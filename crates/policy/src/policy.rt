@@ -15,7 +15,7 @@ use refusal::{Refusal, Refused};
 use text::bytes::{Class, run_end};
 
 // The rules in their order, and the three defaults. Names and replacements stand in the policy's text.
-#[derive(Drop)]
+#[derive(Clone, Copy)]
 pub struct Policy {
     pub rules: RuleList,
     pub posture: Posture,

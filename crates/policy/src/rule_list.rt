@@ -10,23 +10,29 @@ use refusal::Refusal;
 use refusal::limits::RULES_MAX;
 use std::marker::Model;
 
-// Rules in their order: the first `count` of the array.
-#[derive(Drop)]
+// Rules in their order: the first `count` of the array. Behind them stand rules that do nothing, so that the list alone gives the array back.
+#[derive(Clone, Copy)]
 pub struct RuleList {
     held: [Rule; RULES_MAX],
     count: usize,
 }
 
 impl Model for RuleList {
-    ghost use Rattle.std.specs.Prelude.{List, ◌≤◌, take};
+    ghost use Rattle.std.specs.Prelude.{◌≡◌, List, ◌++◌, ◌-◌, ◌≤◌, length, take, drop, replicate};
+    ghost use Rattle.std.proofs.Common.{refl, arith, length-take, take-append-drop};
     ghost use Rattle.er7_redact.specs.declared.policy.Rule.{Rule as HeldRule};
     ghost use Rattle.refusal.specs.Limits.{RULES_MAX};
+    ghost use Rattle.policy.specs.RuleList.{no_rule};
 
     ghost Value = { List HeldRule };
 
     ghost view = { λ r. take r.count r.held };
 
-    ghost invariant = { λ r. r.count ≤ RULES_MAX };
+    ghost invariant = { λ r. (r.count ≤ RULES_MAX) × (length r.held ≡ RULES_MAX) × (drop r.count r.held ≡ replicate (RULES_MAX - r.count) no_rule) };
+
+    ghost inverse = { λ d. record { held = d ++ replicate (RULES_MAX - length d) no_rule; count = length d } };
+
+    ghost inverse_ok = { λ a h. let n : length (take a.count a.held) ≡ a.count = simp length-take (omega (arith, h.0, h.1)) in rw (n, ← h.2, take-append-drop) refl };
 }
 
 // A rule that does nothing, for the places behind the last rule.
