@@ -9,7 +9,7 @@ pub returns-then-not-is_in : goal.returns-then-not-is_in
 returns-then-not-is_in c = reading_stop c.loop-j.invariant (omega arith) (digit_no _ c.is_in.ensures c.if-not-is_in.true)
 
 pub overflow_sub-b : goal.overflow_sub-b
-overflow_sub-b c = digit_low _ (digit_yes _ c.is_in.ensures c.if-not-is_in.false)
+overflow_sub-b c = omega (arith, digit_low _ (digit_yes _ c.is_in.ensures c.if-not-is_in.false))
 
 pub returns-in_err-checked_mul : goal.returns-in_err-checked_mul
 returns-in_err-checked_mul c = c.from_residual.ensures ∙ sym (reading_over c.loop-j.invariant (omega arith) (digit_yes _ c.is_in.ensures c.if-not-is_in.false) (omega (arith, c.in_err-checked_mul.ensures)))
