@@ -4,7 +4,7 @@ use Rattle.std.proofs.Common.{Option as Maybe}
 use Rattle.std.proofs.lemmas.Bool.{eqb-false}
 use borrow.Author.Tests.{not-true}
 use Rattle.text.specs.Text.{Text, same, part}
-use Rattle.text.proofs.Laws.{and_false, and_id, and_left, and_right}
+use Rattle.text.proofs.Laws.{clash, and_false, and_id, and_left, and_right}
 use Rattle.text.proofs.Words.{same_longer}
 use Rattle.text.proofs.Runs.{drop_step}
 use Rattle.text.proofs.Kept.{part_length}
@@ -20,8 +20,9 @@ use Rattle.er7_table.specs.declared.table.Leaf.{Leaf as HeldLeaf}
 use Rattle.er7_table.specs.Table.{as_label}
 use Rattle.redact_6_row.specs.Reach.{reaches_place}
 use Rattle.redact_6_row.proofs.Reaches.{covers_steps}
-use Rattle.redact_2_turn.specs.Turn.{name_of, aim_at, enters, is_touched, looks_at, works}
-use Rattle.redact_2_turn.specs.declared.turn.Aim.TheVariants.{Reached, Unnamed}
+use Rattle.redact_2_turn.specs.Turn.{name_of, aim_at, field_of, enters, is_touched, looks_at, works}
+use Rattle.redact_2_turn.specs.declared.turn.Aim.{Aim}
+use Rattle.redact_2_turn.specs.declared.turn.Aim.TheVariants.{Reached, Unnamed, Nothing}
 
 -- ---- a name of three bytes
 
@@ -107,3 +108,10 @@ enters_is n w g {f} e = rw e (ap (λ b. b && fits w.segment_occurrence g.occurre
 pub works_elsewhere : (name : Maybe (ℕ × ℕ × ℕ)) (w : HeldPath) (g : Label) (named : Bool) (x : HeldLeaf) → fits w.field x.place.field ≡ false → works (Reached name w) g named x ≡ false
 unfolding works looks_at reaches_place as_path
 works_elsewhere name w g named x e = rw (e, and_false (is_touched g x))
+
+-- .. by the field to which an aim keeps
+pub works_other : (aim : Aim) (g : Label) (named : Bool) (x : HeldLeaf) → fits (field_of aim) x.place.field ≡ false → works aim g named x ≡ false
+unfolding field_of fits
+works_other (Reached name w) g named x e = works_elsewhere name w g named x e
+works_other (Unnamed empty) g named x e = clash e
+works_other Nothing g named x e = clash e

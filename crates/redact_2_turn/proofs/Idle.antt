@@ -1,21 +1,23 @@
 -- Laws of the leaves and segments that a turn passes by. Assumes nothing.
-use Rattle.std.proofs.Common.{◌≡◌, refl, sym, ap, Bool, true, false, not, ◌&&◌, List, [], ℕ, ◌≤◌, ◌<◌, eqb, ltb, ne_eqb, ltb-true, arith}
+use Rattle.std.proofs.Common.{◌≡◌, refl, sym, ap, Bool, true, false, not, ◌&&◌, List, [], ℕ, ◌+◌, ◌-◌, ◌≤◌, ◌<◌, eqb, ltb, ne_eqb, ltb-true, arith, Option, Some, None}
 use Rattle.std.proofs.Math.Option.{none}
-use Rattle.std.proofs.lemmas.Bool.{eqb-false}
+use Rattle.std.proofs.lemmas.Bool.{eqb-false, lt-ltb, le-ltb}
+use borrow.Author.Count.{below_more}
 use borrow.Author.Tests.{not-true}
-use Rattle.text.proofs.Laws.{zero_or, and_false, and_left, and_right}
+use Rattle.text.proofs.Laws.{split, zero_or, and_false, and_id, and_left, and_right}
 use Rattle.er7.specs.Path.{as_path}
 use Rattle.er7.specs.declared.message.Place.{Place}
 use Rattle.er7.specs.declared.path.Path.{Path as HeldPath}
 use Rattle.message_model.specs.Message.{Label, touchable}
 use Rattle.run_model.specs.Redact.{fits}
 use Rattle.er7_table.specs.declared.table.Leaf.{Leaf as HeldLeaf}
-use Rattle.er7_table.specs.Table.{leaf_row, place_at, stored_text, leaf_at}
+use Rattle.er7_table.specs.declared.table.Segment.{Segment as HeldSegment}
+use Rattle.er7_table.specs.Table.{leaf_row, place_at, stored_text, leaf_at, label_at}
 use Rattle.redact_6_row.specs.Reach.{reaches_place}
 use Rattle.redact_4_leaf.specs.State.{Buffers, leaves, marked}
 use Rattle.redact_4_leaf.proofs.Acting.{live_text}
-use Rattle.redact_2_turn.specs.Turn.{field_of, is_touched, looks_at, works}
-use Rattle.redact_2_turn.specs.Ordered.{Rising, Ordered, StartAt, is_behind}
+use Rattle.redact_2_turn.specs.Turn.{field_of, enters, is_touched, looks_at, works}
+use Rattle.redact_2_turn.specs.Ordered.{Rising, Ordered, StartAt, is_behind, Skipped, SegmentsSkipped}
 use Rattle.redact_2_turn.specs.declared.turn.Aim.{Aim}
 use Rattle.redact_2_turn.specs.declared.turn.Aim.TheVariants.{Reached, Unnamed, Nothing}
 
@@ -37,6 +39,19 @@ other_field Nothing g named x h ne = absurd (omega (arith, h))
 
 -- ---- the leaves that are passed by
 
+-- a leaf's field is told first
+module _ (field : ℕ) (x : HeldLeaf) where
+  pub later_is : field < x.place.field → not (eqb field 0) && not x.gone ≡ is_behind field x
+  unfolding is_behind
+  later_is l = rw (lt-ltb field x.place.field l) (sym (and_id (not (eqb field 0) && not x.gone)))
+
+  pub other_is : x.place.field ≤ field → ltb field x.place.field ≡ is_behind field x
+  unfolding is_behind
+  other_is l = rw (le-ltb field x.place.field l) (sym (and_false (not (eqb field 0) && not x.gone)))
+
+rising_later : {held : List HeldLeaf} {first end i : ℕ} → Rising held first end → first ≤ i → Rising held i end
+rising_later u h = record { rise = λ j k a b l x y. u.rise j k (omega arith) b l x y }
+
 module _ (aim : Aim) (g : Label) (named : List Bool) (held : List HeldLeaf) where
   -- those before the first of the field
   pub idle_before : {first end r : ℕ} → Ordered held first end → StartAt (field_of aim) first end r → (j : ℕ) → first ≤ j → j < r → works aim g (marked named j) (leaf_row held j) ≡ false
@@ -53,6 +68,34 @@ module _ (aim : Aim) (g : Label) (named : List Bool) (held : List HeldLeaf) wher
       let live = not-true x.gone (and_right (not (eqb field 0)) (not x.gone) front) in
       let behind = ltb-true field x.place.field (and_right (not (eqb field 0) && not x.gone) (ltb field x.place.field) e) in
       other_field aim g (marked named j) (leaf_row held j) (zero_or field (λ z. absurd (some z)) (λ z. z)) (λ q f. omega (arith, behind, u.rise i j (omega arith) l m live q))
+
+-- ---- the leaves and segments that are skipped
+
+-- how many rows are left, from the next on
+abbrev pub left : ℕ → Option ℕ → ℕ
+left end (Some r) = end - r
+left end None = 0
+
+module _ (aim : Aim) (g : Label) (named : List Bool) (held : List HeldLeaf) {i : ℕ} where
+  pub skipped_more : {r : ℕ} → Skipped aim g named held i r → works aim g (marked named r) (leaf_row held r) ≡ false → Skipped aim g named held i (r + 1)
+  skipped_more {r} s e = record {
+    low = omega (arith, s.low);
+    idle = λ j l m. below_more (λ j. i ≤ j → works aim g (marked named j) (leaf_row held j) ≡ false) r (λ j m l. s.idle j l m) (λ l. e) j m l;
+  }
+
+  -- behind a leaf of a later field none is reached
+  pub skipped_rest : {r end : ℕ} → Skipped aim g named held i r → Rising held i end → r < end → is_behind (field_of aim) (leaf_row held r) ≡ true → Skipped aim g named held i end
+  skipped_rest {r} {end} s u h e = record {
+    low = omega (arith, s.low);
+    idle = λ j l m. split j r (λ b. s.idle j l b) (λ b. idle_behind aim g named held (rising_later u s.low) h e j b m);
+  }
+
+module _ (aim : Aim) (segs : List HeldSegment) {k : ℕ} where
+  pub segments_more : {r : ℕ} → SegmentsSkipped aim segs k r → enters aim (label_at segs r) ≡ false → SegmentsSkipped aim segs k (r + 1)
+  segments_more {r} s e = record {
+    low = omega (arith, s.low);
+    idle = λ j l m. below_more (λ j. k ≤ j → enters aim (label_at segs j) ≡ false) r (λ j m l. s.idle j l m) (λ l. e) j m l;
+  }
 
 -- ---- the order of the fields, where leaves are as they were
 

@@ -1,5 +1,5 @@
 -- Laws of a turn's visits: what each asks for, what it answers, and the loops over leaves and segments. Assumes nothing.
-use Rattle.std.proofs.Common.{Result, Ok, Err}
+use Rattle.std.proofs.Common.{Result, Ok, Err, Option, Some, None}
 use mathlib.Core.Path.{◌≡◌, refl, sym, ap, subst, ◌∙◌}
 use mathlib.Core.Bool.{Bool, true, false, not, ◌&&◌, ◌||◌}
 use mathlib.Core.List.{List, []}
@@ -30,7 +30,7 @@ use Rattle.redact_4_leaf.specs.Visit.{rule_pass, unnamed_pass, Visit}
 use Rattle.redact_4_leaf.specs.declared.leaf.Spot.{Spot}
 use Rattle.redact_4_leaf.proofs.Unnamed.{unnamed_acted}
 use Rattle.redact_2_turn.specs.Turn.{pass_of, pass_by, by_node, aim_at, aim_of, field_of, enters, is_touched, looks_at, works, TurnHeld, JobHeld}
-use Rattle.redact_2_turn.specs.Ordered.{AllOrdered, StartAt, is_behind, SpotIs}
+use Rattle.redact_2_turn.specs.Ordered.{Rising, AllOrdered, StartAt, SegmentsSkipped, NextLeaf, NextSegment, SpotIs}
 use Rattle.redact_2_turn.specs.Taken.{Ahead, Visitable, Passable, Passing, LeavesPassed, Turning, TurnTaken}
 use Rattle.redact_2_turn.specs.declared.turn.Turn.{Turn}
 use Rattle.redact_2_turn.specs.declared.turn.Turn.TheVariants.{Apply, Collapse, Reject, Sweep, Idle}
@@ -40,8 +40,8 @@ use Rattle.redact_2_turn.specs.declared.turn.Job.{Job}
 use Rattle.redact_2_turn.proofs.Aims.{works_rule, works_unnamed, covers_here, touched_live, touched_place}
 use Rattle.redact_2_turn.proofs.Still.{Still, still_leaf, still_segment}
 use Rattle.redact_2_turn.proofs.Funds.{room_left_ready, room_left_node}
-use Rattle.redact_2_turn.proofs.Turns.{spot, passing_start, passing_more, passing_stop, passing_still, passing_done, visit_going, visit_stopped, turning_start, segment_low, segment_high, turning_more, turning_stop, turning_still, turning_done, passed_going, passed_stopped}
-use Rattle.redact_2_turn.proofs.Idle.{idle_before, idle_behind, ahead_rising, ordered_as}
+use Rattle.redact_2_turn.proofs.Turns.{spot, passing_start, passing_more, passing_stop, passing_still, visit_going, visit_stopped, turning_start, segment_low, segment_high, turning_more, turning_stop, turning_still, turning_done, passed_going, passed_stopped}
+use Rattle.redact_2_turn.proofs.Idle.{idle_before, ahead_rising, ordered_as}
 
 -- ---- a leaf with which an aim has to do
 
@@ -149,6 +149,12 @@ module _ {text : Text} (job : Job) {at : Spot} {β : Buffers} {c : Counters} {β
 
 -- ---- the leaves of a segment
 
+-- the leaves before the next are visited or passed by, and with it the turn has to do; or there is none, and all of them are
+abbrev pub Standing : Text → Job → Spot → Buffers → Counters → Option ℕ → Buffers → Counters → Type 0
+Standing text job at β₀ c₀ (Some i) β c =
+    Passing (pass_by text job) (by_node job.turn) job.on (as_label at.label) at.index at.end i text β₀ c₀ β c × (i < at.end) × (works job.aim (as_label at.label) (marked β.named i) (leaf_row β.held i) ≡ true)
+Standing text job at β₀ c₀ None β c = Passing (pass_by text job) (by_node job.turn) job.on (as_label at.label) at.index at.end at.end text β₀ c₀ β c
+
 module _ {text : Text} {job : Job} (h : JobHeld text job) (at : Spot) (β₀ : Buffers) (c₀ : Counters) (p : Passable job at β₀.held) where
   -- the leaves before index i are visited or passed by
   abbrev pub Before : ℕ → Buffers → Counters → Type 0
@@ -166,34 +172,34 @@ module _ {text : Text} {job : Job} (h : JobHeld text job) (at : Spot) (β₀ : B
       passed_by t.low t.high (idle_before job.aim (as_label at.label) β₀.named β₀.held p.ordered t)
       (passing_start (pass_by text job) (by_node job.turn) job.on at.label at.index at.end text β₀ c₀ p.order a.held a.room_left)
 
-  module _ {i : ℕ} {β : Buffers} {c : Counters} (w : Before i β c) (l : i < at.end) where
-    -- leaf i lies in the tables
-    pub before_inside : (i < length β.held) × (i < LEAVES_MAX)
-    before_inside = (omega (arith, p.ends, w.held.good.rows), omega (arith, p.ends, w.held.marks))
+  module _ {i : ℕ} {β : Buffers} {c : Counters} (w : Before i β c) where
+    pub before_rest : (i ≤ at.end) × (at.end ≤ length β.held) × (at.end ≤ LEAVES_MAX) × Rising β.held i at.end
+    before_rest = (w.high, omega (arith, p.ends, w.held.good.rows), omega (arith, p.ends, w.held.marks), ahead_rising β₀ β w.low (λ j a b. w.ahead j a (omega (arith, p.ends))) p.ordered)
 
+    pub before_next : (r : Option ℕ) → NextLeaf job.aim (as_label at.label) β.named β.held i at.end r → Standing text job at β₀ c₀ r β c
+    before_next (Some r) n = (passed_by n.0.low (omega (arith, n.1)) n.0.idle w, n.1, n.2)
+    before_next None n = passed_by n.low (omega arith) n.idle w
+
+  module _ {i : ℕ} {β : Buffers} {c : Counters} (w : Before i β c) (l : i < at.end) where
     pub before_visitable : works job.aim (as_label at.label) (marked β.named i) (leaf_row β.held i) ≡ true → Visitable text job (spot at.label at.end i) β c
     before_visitable e = record { enters = p.enters; works = e; inside = l; ends = p.ends; ahead = record { held = w.held; room_left = w.room_left } }
 
     pub before_visited : {β' : Buffers} {r : Result Counters Refusal} {c' : Counters} → Visit (pass_by text job) (by_node job.turn) job.on (spot at.label at.end i) text β c β' r → r ≡ Ok c' → Before (i + 1) β' c'
     before_visited v e = passing_more (pass_by text job) (by_node job.turn) job.on at.label at.index at.end text β₀ c₀ p.ends w l (visit_going v e)
 
-    pub before_passed : works job.aim (as_label at.label) (marked β.named i) (leaf_row β.held i) ≡ false → Before (i + 1) β c
-    before_passed e = passed_by (omega arith) (omega arith) (λ j a b. let q : j ≡ i = omega arith in rw q e) w
-
     pub before_stop : {β' : Buffers} {r : Result Counters Refusal} {x : Refusal} → Visit (pass_by text job) (by_node job.turn) job.on (spot at.label at.end i) text β c β' r → r ≡ Err x
         → LeavesPassed (pass_by text job) (by_node job.turn) job.on at text β₀ c₀ β' (Err x)
     before_stop v e = record { out = passing_stop (pass_by text job) (by_node job.turn) job.on at.label at.index at.end text β₀ c₀ p.ends w l (visit_stopped v e) }
 
-    -- leaf i is of a later field
-    pub before_behind : is_behind (field_of job.aim) (leaf_row β.held i) ≡ true → LeavesPassed (pass_by text job) (by_node job.turn) job.on at text β₀ c₀ β (Ok c)
-    before_behind e =
-        let u = ahead_rising β₀ β w.low (λ j a b. w.ahead j a (omega (arith, p.ends))) p.ordered in
-        record { out = passed_by (omega arith) (omega arith) (idle_behind job.aim (as_label at.label) β.named β.held u l e) w }
-
-  pub before_end : {i : ℕ} {β : Buffers} {c : Counters} → Before i β c → at.end ≤ i → LeavesPassed (pass_by text job) (by_node job.turn) job.on at text β₀ c₀ β (Ok c)
-  before_end w l = record { out = passing_done (pass_by text job) (by_node job.turn) job.on at.label at.index at.end text β₀ c₀ l w }
+  pub before_end : {β : Buffers} {c : Counters} → Before at.end β c → LeavesPassed (pass_by text job) (by_node job.turn) job.on at text β₀ c₀ β (Ok c)
+  before_end w = record { out = w }
 
 -- ---- all segments
+
+-- the segments before the next are passed, and it is entered; or there is none, and all of them are
+abbrev pub Coming : Text → Job → List HeldSegment → Buffers → Counters → Option ℕ → Buffers → Counters → Type 0
+Coming text job segs β₀ c₀ (Some k) β c = Turning (pass_by text job) (by_node job.turn) job.on segs k text β₀ c₀ β c × (k < job.on.segments) × (enters job.aim (label_at segs k) ≡ true)
+Coming text job segs β₀ c₀ None β c = Turning (pass_by text job) (by_node job.turn) job.on segs job.on.segments text β₀ c₀ β c
 
 module _ {text : Text} {job : Job} (h : JobHeld text job) (segs : List HeldSegment) (z : Segmented segs job.on.segments job.on.leaves) (β₀ : Buffers) (c₀ : Counters) where
   -- those before segment k are passed
@@ -203,13 +209,18 @@ module _ {text : Text} {job : Job} (h : JobHeld text job) (segs : List HeldSegme
   pub through_none : Ahead text job 0 β₀ c₀ → Through 0 β₀ c₀
   through_none a = turning_start (pass_by text job) (by_node job.turn) job.on segs text z β₀ c₀ a.held a.room_left
 
-  module _ {k : ℕ} {β : Buffers} {c : Counters} (w : Through k β c) (l : k < job.on.segments) where
-    pub through_passed : enters job.aim (label_at segs k) ≡ false → Through (k + 1) β c
+  module _ {k : ℕ} {β : Buffers} {c : Counters} (w : Through k β c) where
+    through_to : {r : ℕ} → SegmentsSkipped job.aim segs k r → r ≤ job.on.segments → Through r β c
     unfolding pass_by label_at name_at
-    through_passed e =
-        turning_still (pass_by text job) (by_node job.turn) job.on segs text z β₀ c₀ (omega arith) (omega arith)
-        (λ j a b x xs. let q : j ≡ k = omega arith in rw q (still_segment job.on.key job.on.separators text (knowing text β c) (label_at segs k) refl job.turn h.held (rw h.aim at e) x xs)) w
+    through_to s l =
+        turning_still (pass_by text job) (by_node job.turn) job.on segs text z β₀ c₀ s.low l
+        (λ j a b x xs. still_segment job.on.key job.on.separators text (knowing text β c) (label_at segs j) refl job.turn h.held (rw h.aim at s.idle j a b) x xs) w
 
+    pub through_next : (r : Option ℕ) → NextSegment job.aim segs k job.on.segments r → Coming text job segs β₀ c₀ r β c
+    through_next (Some r) n = (through_to n.0 (omega (arith, n.1)), n.1, n.2)
+    through_next None n = through_to n (omega arith)
+
+  module _ {k : ℕ} {β : Buffers} {c : Counters} (w : Through k β c) (l : k < job.on.segments) where
     module _ {at : Spot} (q : SpotIs segs k at) where
       pub through_passable : enters job.aim (label_at segs k) ≡ true → AllOrdered segs β₀.held job.on.segments → Passable job at β.held
       through_passable e o =
@@ -235,5 +246,5 @@ module _ {text : Text} {job : Job} (h : JobHeld text job) (segs : List HeldSegme
           let u = rw (q.label, q.first, q.end) at (passed_stopped v e) in
           record { out = turning_stop (pass_by text job) (by_node job.turn) job.on segs text z β₀ c₀ w l u }
 
-  pub through_all : {k : ℕ} {β : Buffers} {c : Counters} → Through k β c → job.on.segments ≤ k → TurnTaken (pass_by text job) job.on segs text β₀ c₀ β (Ok c)
-  through_all w l = record { out = turning_done (pass_by text job) (by_node job.turn) job.on segs text z β₀ c₀ l w }
+  pub through_all : {β : Buffers} {c : Counters} → Through job.on.segments β c → TurnTaken (pass_by text job) job.on segs text β₀ c₀ β (Ok c)
+  through_all w = record { out = turning_done (pass_by text job) (by_node job.turn) job.on segs text z β₀ c₀ (omega arith) w }

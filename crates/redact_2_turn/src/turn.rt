@@ -1,5 +1,5 @@
 // A turn of a run over all leaves of a message.
-ghost use Rattle.std.specs.Prelude.{◌≡◌, ◌+◌, ◌≤◌, ◌<◌};
+ghost use Rattle.std.specs.Prelude.{◌≡◌, ◌+◌, ◌≤◌, ◌<◌, length};
 ghost use Rattle.er7.specs.Path.{PathHeld};
 ghost use Rattle.er7_table.specs.Table.{as_label, Segmented};
 ghost use Rattle.redact_5_act.specs.State.{after_step};
@@ -7,7 +7,7 @@ ghost use Rattle.redact_4_leaf.specs.State.{buffers};
 ghost use Rattle.redact_4_leaf.specs.Visit.{Visit};
 ghost use Rattle.redact_2_turn.specs.Turn as Turns;
 ghost use Rattle.redact_2_turn.specs.Turn.{name_of, aim_of, field_of, works, by_node, pass_by, TurnHeld, JobHeld};
-ghost use Rattle.redact_2_turn.specs.Ordered.{AllOrdered, StartAt, is_behind, SpotIs};
+ghost use Rattle.redact_2_turn.specs.Ordered.{Rising, AllOrdered, StartAt, is_behind, NextLeaf, NextSegment, SpotIs};
 ghost use Rattle.redact_2_turn.specs.Taken.{Ahead, Visitable, Passable, LeavesPassed, TurnTaken};
 ghost use Rattle.refusal.specs.Limits.{LEAVES_MAX};
 
@@ -91,10 +91,10 @@ pub fn aim_of(turn: Turn, text: &[u8]) -> Aim
 
 // The field to which an aim keeps, 0 for none.
 #[tactic(auto, unfolding(crate::specs::Turn::field_of))]
-fn field_of(aim: Aim) -> u64
-    ensures { result ≡ field_of aim }
+fn field_of(aim: &Aim) -> u64
+    ensures { result ≡ field_of aim.now }
 {
-    match aim {
+    match *aim {
         Aim::Reached { path, .. } => path.field,
         Aim::Unnamed { .. } => 0,
         Aim::Nothing => 0,
@@ -103,10 +103,10 @@ fn field_of(aim: Aim) -> u64
 
 // Whether an aim has to do with a segment.
 #[tactic(auto, unfolding(crate::specs::Turn::enters))]
-fn enters(aim: Aim, g: Label) -> bool
-    ensures { result ≡ Turns.enters aim (as_label g) }
+fn enters(aim: &Aim, g: Label) -> bool
+    ensures { result ≡ Turns.enters aim.now (as_label g) }
 {
-    match aim {
+    match *aim {
         Aim::Reached { name, path } => {
             let Some((a, b, c)) = name else {
                 return false;
@@ -116,6 +116,24 @@ fn enters(aim: Aim, g: Label) -> bool
         Aim::Unnamed { .. } => true,
         Aim::Nothing => false,
     }
+}
+
+// The next segment, from segment `from` on, of m, with which an aim has to do.
+fn next_segment(
+    aim: &Aim,
+    segments: &[Segment; SEGMENT_ROWS],
+    from: usize,
+    m: usize,
+) -> Option<usize>
+    requires { (from ≤ m) × (m ≤ SEGMENT_ROWS) }
+    ensures { NextSegment aim.now segments.now from m result }
+{
+    for k in from..m {
+        if enters(aim, segments[k].label) {
+            return Some(k);
+        }
+    }
+    None
 }
 
 // The index of the first leaf that may be of the field: each field before it has a leaf at least.
@@ -128,17 +146,17 @@ fn start_at(field: u64, first: usize, end: usize) -> usize
 }
 
 // Whether a leaf of the segment g has not vanished and may be touched.
-fn is_touched(g: Label, leaf: Leaf) -> bool
-    ensures { result ≡ Turns.is_touched (as_label g) leaf }
+fn is_touched(g: Label, leaf: &Leaf) -> bool
+    ensures { result ≡ Turns.is_touched (as_label g) leaf.now }
 {
     !leaf.gone & touchable(g, leaf.place)
 }
 
 // Whether an aim has to do with a leaf of a segment g with which it has to do. A leaf of another field is told at one look.
-fn works_on(aim: Aim, g: Label, named: bool, leaf: Leaf) -> bool
-    ensures { result ≡ works aim (as_label g) named leaf }
+fn works_on(aim: &Aim, g: Label, named: bool, leaf: &Leaf) -> bool
+    ensures { result ≡ works aim.now (as_label g) named leaf.now }
 {
-    match aim {
+    match *aim {
         Aim::Reached { path, .. } => {
             index_fits(path.field, leaf.place.field)
                 && is_touched(g, leaf) & reaches_place(path, leaf.place)
@@ -149,10 +167,37 @@ fn works_on(aim: Aim, g: Label, named: bool, leaf: Leaf) -> bool
 }
 
 // Whether a leaf has not vanished and stands behind the field, which is 0 for none.
-fn is_behind(field: u64, leaf: Leaf) -> bool
-    ensures { result ≡ is_behind field leaf }
+fn is_behind(field: u64, leaf: &Leaf) -> bool
+    ensures { result ≡ is_behind field leaf.now }
 {
-    (field != 0) & !leaf.gone & (field < leaf.place.field as u64)
+    field < leaf.place.field as u64 && (field != 0) & !leaf.gone
+}
+
+// The index of the next leaf of the segment g, from index `from` to index `end`, with which an aim has to do. A leaf of another field is told
+// at one look.
+fn next_leaf(
+    aim: &Aim,
+    g: Label,
+    named: &[bool; LEAVES_MAX],
+    leaves: &[Leaf],
+    from: usize,
+    end: usize,
+) -> Option<usize>
+    requires { (from ≤ end) × (end ≤ length leaves.now) × (end ≤ LEAVES_MAX) × Rising leaves.now from end }
+    ensures { NextLeaf aim.now (as_label g) named.now leaves.now from end result }
+{
+    let field = field_of(aim);
+    for i in from..end {
+        let leaf = &leaves[i];
+        if index_fits(field, leaf.place.field) {
+            if works_on(aim, g, named[i], leaf) {
+                return Some(i);
+            }
+        } else if is_behind(field, leaf) {
+            return None;
+        }
+    }
+    None
 }
 
 // A turn on a leaf with which it has to do.
@@ -205,17 +250,14 @@ fn pass_leaves(
     requires { JobHeld text.now job × Passable job at leaves.old × Ahead text.now job at.index (buffers named.old leaves.old store.old report.old bytes.old known.old) counters.old }
     ensures { LeavesPassed (pass_by text.now job) (by_node job.turn) job.on at text.now (buffers named.old leaves.old store.old report.old bytes.old known.old) counters.old (buffers named.new leaves.new store.new report.new bytes.new known.new) (after_step counters.new result) }
 {
-    let field = field_of(job.aim);
-    for i in start_at(field, at.index, at.end)..at.end {
-        let leaf = leaves[i];
-        if works_on(job.aim, at.label, named[i], leaf) {
-            let spot = Spot { index: i, ..at };
-            visit(
-                job, spot, text, named, leaves, store, report, bytes, known, counters,
-            )?;
-        } else if is_behind(field, leaf) {
-            return Ok(());
-        }
+    let start = start_at(field_of(&job.aim), at.index, at.end);
+    let mut next = next_leaf(&job.aim, at.label, named, leaves, start, at.end);
+    while let Some(i) = next {
+        let spot = Spot { index: i, ..at };
+        visit(
+            job, spot, text, named, leaves, store, report, bytes, known, counters,
+        )?;
+        next = next_leaf(&job.aim, at.label, named, leaves, i + 1, at.end);
     }
     Ok(())
 }
@@ -248,21 +290,21 @@ pub fn take_turn(
     requires { JobHeld text.now job × Segmented segments.now job.on.segments job.on.leaves × AllOrdered segments.now leaves.old job.on.segments × Ahead text.now job 0 (buffers named.old leaves.old store.old report.old bytes.old known.old) counters.old }
     ensures { TurnTaken (pass_by text.now job) job.on segments.now text.now (buffers named.old leaves.old store.old report.old bytes.old known.old) counters.old (buffers named.new leaves.new store.new report.new bytes.new known.new) (after_step counters.new result) }
 {
-    for k in 0..job.on.segments {
-        if enters(job.aim, segments[k].label) {
-            pass_leaves(
-                job,
-                spot_of(segments, k),
-                text,
-                named,
-                leaves,
-                store,
-                report,
-                bytes,
-                known,
-                counters,
-            )?;
-        }
+    let mut next = next_segment(&job.aim, segments, 0, job.on.segments);
+    while let Some(k) = next {
+        pass_leaves(
+            job,
+            spot_of(segments, k),
+            text,
+            named,
+            leaves,
+            store,
+            report,
+            bytes,
+            known,
+            counters,
+        )?;
+        next = next_segment(&job.aim, segments, k + 1, job.on.segments);
     }
     Ok(())
 }
