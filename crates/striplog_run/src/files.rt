@@ -1,4 +1,6 @@
 // The three files, read, and what is printed, written.
+ghost use Rattle.std.specs.Prelude.{◌≤◌, length, IfSome};
+
 use super::strip::strip;
 use reading::read_full;
 use std::fs::File;
@@ -8,7 +10,9 @@ use std::rt::Files;
 use striplog_text::key::{Key, feed};
 
 // Puts the file's bytes into buf, as many as there is room for, and returns them, if the file is there.
-fn load<'a, R: Files>(rt: &R, name: &str, buf: &'a mut [u8]) -> Option<&'a [u8]> {
+fn load<'a, R: Files>(rt: &R, name: &str, buf: &'a mut [u8]) -> Option<&'a [u8]>
+    ensures { IfSome result (λ s. length s.now ≤ length buf.old) }
+{
     let mut file = File::open(rt, name).ok()?;
     let len = read_full(&mut file, buf);
     Some(&buf[..len])

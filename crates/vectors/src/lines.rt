@@ -1,10 +1,12 @@
 // Lines of fields parted by tabs.
-ghost use Rattle.std.specs.Prelude.{◌<◌};
+ghost use Rattle.std.specs.Prelude.{◌≤◌, ◌<◌, length, IfSome};
 
 use super::parts::{Page, front};
 
 // Field k, from 0, of a line; an empty one if it has fewer.
-pub fn field(line: &[u8], k: usize) -> &[u8] {
+pub fn field(line: &[u8], k: usize) -> &[u8]
+    ensures { length result.now ≤ length line.now }
+{
     line.split(|b| *b == b'\t').nth(k).unwrap_or(&[])
 }
 
@@ -39,7 +41,9 @@ fn digit(b: u8) -> u8
 }
 
 // The byte that s begins with, as itself, as `\x` and two digits, or as `\` and one byte; and what stands behind it.
-fn first(s: &[u8]) -> Option<(u8, &[u8])> {
+fn first(s: &[u8]) -> Option<(u8, &[u8])>
+    ensures { IfSome result (λ p. length p.1.now < length s.now) }
+{
     match s {
         [b'\\', b'x', high, low, rest @ ..] => Some((digit(*high) * 16 + digit(*low), rest)),
         [b'\\', b'x', ..] | [b'\\'] | [] => None,

@@ -16,8 +16,10 @@ fn put_step(b: u8, n: usize, out: &mut Page, at: usize) -> usize {
 
 // Writes the name and the occurrence of a segment.
 fn put_label(g: Label, out: &mut Page, at: usize) -> usize {
-    let a = put(&[g.a, g.b, g.c], out, at);
-    let k = put_step(b'[', g.occurrence, out, a);
+    let a = put_byte(g.a, out, at);
+    let b = put_byte(g.b, out, a);
+    let c = put_byte(g.c, out, b);
+    let k = put_step(b'[', g.occurrence, out, c);
     put_byte(b']', out, k)
 }
 
