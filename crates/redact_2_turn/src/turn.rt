@@ -202,7 +202,7 @@ fn next_leaf(
 
 // A turn on a leaf with which it has to do.
 fn visit(
-    job: Job,
+    job: &Job,
     at: Spot,
     text: &[u8],
     named: &mut [bool; LEAVES_MAX],
@@ -213,8 +213,8 @@ fn visit(
     known: &mut [Known; LEARNT_MAX],
     counters: &mut Counters,
 ) -> Result<(), Refusal>
-    requires { JobHeld text.now job × Visitable text.now job at (buffers named.old leaves.old store.old report.old bytes.old known.old) counters.old }
-    ensures { Visit (pass_by text.now job) (by_node job.turn) job.on at text.now (buffers named.old leaves.old store.old report.old bytes.old known.old) counters.old (buffers named.new leaves.new store.new report.new bytes.new known.new) (after_step counters.new result) }
+    requires { JobHeld text.now job.now × Visitable text.now job.now at (buffers named.old leaves.old store.old report.old bytes.old known.old) counters.old }
+    ensures { Visit (pass_by text.now job.now) (by_node job.now.turn) job.now.on at text.now (buffers named.old leaves.old store.old report.old bytes.old known.old) counters.old (buffers named.new leaves.new store.new report.new bytes.new known.new) (after_step counters.new result) }
 {
     let on = job.on;
     let turn = job.turn;
@@ -236,7 +236,7 @@ fn visit(
 
 // A turn on the leaves of a segment: those from index at.index on.
 fn pass_leaves(
-    job: Job,
+    job: &Job,
     at: Spot,
     text: &[u8],
     named: &mut [bool; LEAVES_MAX],
@@ -247,8 +247,8 @@ fn pass_leaves(
     known: &mut [Known; LEARNT_MAX],
     counters: &mut Counters,
 ) -> Result<(), Refusal>
-    requires { JobHeld text.now job × Passable job at leaves.old × Ahead text.now job at.index (buffers named.old leaves.old store.old report.old bytes.old known.old) counters.old }
-    ensures { LeavesPassed (pass_by text.now job) (by_node job.turn) job.on at text.now (buffers named.old leaves.old store.old report.old bytes.old known.old) counters.old (buffers named.new leaves.new store.new report.new bytes.new known.new) (after_step counters.new result) }
+    requires { JobHeld text.now job.now × Passable job.now at leaves.old × Ahead text.now job.now at.index (buffers named.old leaves.old store.old report.old bytes.old known.old) counters.old }
+    ensures { LeavesPassed (pass_by text.now job.now) (by_node job.now.turn) job.now.on at text.now (buffers named.old leaves.old store.old report.old bytes.old known.old) counters.old (buffers named.new leaves.new store.new report.new bytes.new known.new) (after_step counters.new result) }
 {
     let start = start_at(field_of(&job.aim), at.index, at.end);
     let mut next = next_leaf(&job.aim, at.label, named, leaves, start, at.end);
@@ -293,7 +293,7 @@ pub fn take_turn(
     let mut next = next_segment(&job.aim, segments, 0, job.on.segments);
     while let Some(k) = next {
         pass_leaves(
-            job,
+            &job,
             spot_of(segments, k),
             text,
             named,
